@@ -5,8 +5,9 @@ use Rattle.sensitive_receiver.proofs.Common.{length-append, cases_lt, true≢fal
 use Rattle.sensitive_receiver.proofs.Common.{Reach, Near, Far, Alone, added_places, HeldList, AreAddedBetween, AreAddedIn}
 use Rattle.sensitive_receiver.proofs.Common.{HasRead, HasRoomFrom, list_of}
 use Rattle.tone_tracking.specs.declared.place_tones.PlaceTones.{PlaceTones}
-use Rattle.tone_tracking.specs.HeldLine.{HeldLine, HasTaken as LineHasTaken, decided_in}
+use Rattle.tone_tracking.specs.HeldLine.{HeldLine, HasTaken as LineHasTaken, TakesBlock as LineTakesBlock, decided_in}
 use Rattle.sensitive_receiver.specs.Found.{HasRoom, IsAddedFrom}
+use Rattle.sensitive_receiver.specs.HeardBlock.{HearsBlock}
 use Rattle.sensitive_receiver.specs.Hearing.{AllReadLine, AreTonesOf, ReadsLine}
 use Rattle.sensitive_receiver.specs.HeldLanes.{HeldBank, StandsFor, bank_of}
 use Rattle.sensitive_receiver.specs.HeldList.{AreAt, HaveRead}
@@ -78,7 +79,7 @@ found_more x y from middle to items more le le' inside a b =
 -- ---- one piece
 
 -- what all lists hear has room
-pub all_bounds : (place low : ℕ) (a n f a' n' f' : HeldList) (row : List PlaceTones) (items : List Candidate)
+all_bounds : (place low : ℕ) (a n f a' n' f' : HeldList) (row : List PlaceTones) (items : List Candidate)
     → AreAt place a n f → low ≤ place + 6 → AllReadLine a n f a' n' f' row items → All (HasRoomFrom low) items
 all_bounds place low a n f a' n' f' row items at le reads =
     let P : Candidate → Type 0 = HasRoomFrom low in
@@ -95,7 +96,7 @@ all_bounds place low a n f a' n' f' row items at le reads =
     (weaker f.ring.place reads.far_heard at.far_place reads.far_reads.bounds))
 
 -- where the lists are when they have read a line
-pub all_at : (place count : ℕ) (a n f a' n' f' : HeldList) (row : List PlaceTones) (items : List Candidate)
+all_at : (place count : ℕ) (a n f a' n' f' : HeldList) (row : List PlaceTones) (items : List Candidate)
     → AreAt place a n f → count ≡ place + length row → AllReadLine a n f a' n' f' row items → AreAt count a' n' f'
 all_at place count a n f a' n' f' row items at is reads =
     let one = at.alone_place in
@@ -112,6 +113,13 @@ all_at place count a n f a' n' f' row items at is reads =
       near_place = omega arith;
       far_place = omega arith;
     }
+
+-- items that have room, and are late enough
+have_room : (low : ℕ) (items : List Candidate) → All (HasRoomFrom low) items → All HasRoom items
+have_room low items all = All-weaker (HasRoomFrom low) HasRoom (λ item one. one.room) items all
+
+are_late : (low : ℕ) (items : List Candidate) → All (HasRoomFrom low) items → All (IsAddedFrom low) items
+are_late low items all = All-weaker (HasRoomFrom low) (IsAddedFrom low) (λ item one. one.from) items all
 
 -- the lists read the line of a piece, by the samples with it
 module _ (line : HeldLine) (alone near far a n f : HeldList) (row : List PlaceTones) (piece : List ℤ)
@@ -177,7 +185,7 @@ module _ (line : HeldLine) (alone near far a n f : HeldList) (row : List PlaceTo
       (list_found Far far f reads.far_heard reads.far_reads at.far_place at.far_list end.far_place read.far_read))
 
 -- the line that a piece makes is read
-pub piece_fed : (old line : HeldLine) (alone near far a n f : HeldList) (row : List PlaceTones) (piece : List ℤ)
+piece_fed : (old line : HeldLine) (alone near far a n f : HeldList) (row : List PlaceTones) (piece : List ℤ)
     (items : List Candidate) (x : List ℤ)
     → ((y : List ℤ) → LineHasTaken old y → LineHasTaken line (y ++ piece))
     → line.first ≡ decided_in old.count
@@ -202,7 +210,7 @@ piece_fed old line alone near far a n f row piece items x stands first are size 
     )
 
 -- where the lists are then
-pub piece_at : (old line : HeldLine) (alone near far a n f : HeldList) (row : List PlaceTones) (piece : List ℤ)
+piece_at : (old line : HeldLine) (alone near far a n f : HeldList) (row : List PlaceTones) (piece : List ℤ)
     (items : List Candidate)
     → line.count ≡ old.count + length piece → line.first ≡ decided_in old.count
     → line.first + length row ≡ decided_in line.count → AllReadLine alone near far a n f row items
@@ -212,72 +220,86 @@ piece_at old line alone near far a n f row piece items count first size reads at
 
 -- ---- piece after piece
 
--- what was found so far of a block
+-- what was found so far of a block, and where the lists are then
 pub record HasFed (initial later : HeldBank) (done : List ℤ) (items : List Candidate) : Type 0 where
-  pub position : later.position ≡ initial.position + length done
-  pub fed : (x : List ℤ) → StandsFor initial x
-      → StandsFor later (x ++ done)
-      × AreAddedBetween (added_places (length x)) (added_places (length (x ++ done))) (x ++ done) items
-  pub bounds : All (HasRoomFrom (initial.position - 32)) items
+  pub heard : HearsBlock initial later done items
   pub at : AreAt (decided_in later.line.count) later.alone later.near later.far
+
+-- the line that a piece makes is read, so the piece is heard
+pub piece_heard : (old line : HeldLine) (alone near far a n f : HeldList) (row : List PlaceTones) (piece : List ℤ)
+    (items : List Candidate)
+    → LineTakesBlock old line piece
+    → ((y : List ℤ) → LineHasTaken line y → AreTonesOf line.first row y)
+    → line.first + length row ≡ decided_in line.count
+    → AllReadLine alone near far a n f row items
+    → AreAt (decided_in old.count) alone near far
+    → HasFed (bank_of old alone near far) (bank_of line a n f) piece items
+piece_heard old line alone near far a n f row piece items takes are size reads at =
+    let low : ℕ = old.count - 32 in
+    let bounds = all_bounds (decided_in old.count) low alone near far a n f row items at (omega arith) reads in
+    record {
+      heard = record {
+        found = λ x h. piece_fed old line alone near far a n f row piece items x takes.has_taken takes.first are size
+            reads h;
+        bounds = have_room low items bounds;
+        late = are_late low items bounds;
+        position = takes.count;
+      };
+      at = piece_at old line alone near far a n f row piece items takes.count takes.first size reads at;
+    }
 
 pub fed_none : (initial : HeldBank) → AreAt (decided_in initial.line.count) initial.alone initial.near initial.far
     → HasFed initial initial [] []
 fed_none initial at = record {
-  position = omega arith;
-  fed = λ x h.
-      let from = added_places (length x) in
-      subst (λ y. StandsFor initial y × AreAddedBetween from (added_places (length y)) y []) (sym (append-nil x)) (
-        h,
-        where_none (λ p l. (from ≤ p) × (p < from)) x
-            (λ item place of ends. let low = of.0 in let high = of.1 in absurd (omega arith)),
-      );
-  bounds = All-nil (HasRoomFrom (initial.position - 32));
+  heard = record {
+    found = λ x h.
+        let from = added_places (length x) in
+        subst (λ y. StandsFor initial y × AreAddedBetween from (added_places (length y)) y []) (sym (append-nil x)) (
+          h,
+          where_none (λ p l. (from ≤ p) × (p < from)) x
+              (λ item place of ends. let low = of.0 in let high = of.1 in absurd (omega arith)),
+        );
+    bounds = All-nil HasRoom;
+    late = All-nil (IsAddedFrom (initial.position - 32));
+    position = omega arith;
+  };
   at = at;
 }
 
 pub fed_more : (initial was later : HeldBank) (done piece : List ℤ) (items more : List Candidate)
-    → HasFed initial was done items
-    → later.position ≡ was.position + length piece
-    → ((x : List ℤ) → StandsFor was x → StandsFor later (x ++ piece)
-    × AreAddedBetween (added_places (length x)) (added_places (length (x ++ piece))) (x ++ piece) more)
-    → All (HasRoomFrom (was.position - 32)) more
-    → AreAt (decided_in later.line.count) later.alone later.near later.far
+    → HasFed initial was done items → HasFed was later piece more
     → HasFed initial later (done ++ piece) (items ++ more)
-fed_more initial was later done piece items more h position feed bounds end =
-    let at = h.position in
+fed_more initial was later done piece items more h next =
+    let at = h.heard.position in
+    let end = next.heard.position in
     let size = length-append done piece in
-    let P : Candidate → Type 0 = HasRoomFrom (initial.position - 32) in
+    let P : Candidate → Type 0 = IsAddedFrom (initial.position - 32) in
     record {
-      position = omega arith;
-      fed = λ x start.
-          let from = added_places (length x) in
-          let middle = h.fed x start in
-          let last = feed (x ++ done) middle.0 in
-          let first = length-append x done in
-          let second = length-append (x ++ done) piece in
-          subst (λ y. StandsFor later y × AreAddedBetween from (added_places (length y)) y (items ++ more))
-          (append_assoc x done piece) (
-            last.0,
-            found_more (x ++ done) piece from (added_places (length (x ++ done)))
-                (added_places (length ((x ++ done) ++ piece))) items more (omega arith) (omega arith) (omega arith)
-                middle.1 last.1,
-          );
-      bounds = All-append P items more h.bounds (λ k d l.
-          let one = bounds k d l in
-          let end = one.from.end in
-          record { room = one.room; from = record { lane = one.from.lane; end = omega arith } });
-      at = end;
+      heard = record {
+        found = λ x start.
+            let from = added_places (length x) in
+            let middle = h.heard.found x start in
+            let last = next.heard.found (x ++ done) middle.0 in
+            let first = length-append x done in
+            let second = length-append (x ++ done) piece in
+            subst (λ y. StandsFor later y × AreAddedBetween from (added_places (length y)) y (items ++ more))
+            (append_assoc x done piece) (
+              last.0,
+              found_more (x ++ done) piece from (added_places (length (x ++ done)))
+                  (added_places (length ((x ++ done) ++ piece))) items more (omega arith) (omega arith) (omega arith)
+                  middle.1 last.1,
+            );
+        bounds = All-append HasRoom items more h.heard.bounds next.heard.bounds;
+        late = All-append P items more h.heard.late (λ k d l.
+            let one = next.heard.late k d l in
+            let low = one.end in
+            record { lane = one.lane; end = omega arith });
+        position = omega arith;
+      };
+      at = next.at;
     }
 
 -- nothing is left, so all is done
 pub all_done : (done rest block : List ℤ) → done ++ rest ≡ block → length rest ≡ 0 → done ≡ block
 all_done done [] block is none = sym (append-nil done) ∙ is
 all_done done (x ∷ rest) block is none = absurd (omega arith)
-
--- items that have room, and are late enough
-pub have_room : (low : ℕ) (items : List Candidate) → All (HasRoomFrom low) items → All HasRoom items
-have_room low items all = All-weaker (HasRoomFrom low) HasRoom (λ item one. one.room) items all
-
-pub are_late : (low : ℕ) (items : List Candidate) → All (HasRoomFrom low) items → All (IsAddedFrom low) items
-are_late low items all = All-weaker (HasRoomFrom low) (IsAddedFrom low) (λ item one. one.from) items all

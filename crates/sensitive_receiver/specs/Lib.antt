@@ -10,3 +10,4 @@ pub mod Hearing
 pub mod HeldDecoder
 pub mod Stray
 pub mod LateLanes
+pub mod HeardBlock

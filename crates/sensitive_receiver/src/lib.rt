@@ -15,7 +15,6 @@
 
 mod added_bank;
 mod added_lane;
-mod all_lists;
 mod decided_place;
 mod decoder;
 mod hearing;
@@ -25,6 +24,7 @@ mod laws;
 mod list_bank;
 mod merging;
 mod pieces;
+mod reading;
 
 pub use added_bank::AddedBank;
 pub use decoder::SensitiveDecoder;

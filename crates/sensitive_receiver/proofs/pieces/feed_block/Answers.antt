@@ -1,13 +1,14 @@
-use Rattle.sensitive_receiver.proofs.Common.{◌≡◌, ◌+◌, ◌∙◌, ℤ, List, [], ◌++◌, length, ap, sym, subst, arith}
-use Rattle.sensitive_receiver.proofs.Common.{append_assoc, length-append, added_places, AreAddedBetween}
+use Rattle.sensitive_receiver.proofs.Common.{◌≡◌, ◌∙◌, ℤ, List, [], ◌++◌, length, ap, sym, subst, arith}
+use Rattle.sensitive_receiver.proofs.Common.{append_assoc, length-append}
 use Rattle.std.proofs.Common.{rules}
 use Rattle.std.specs.Slice.Iter.{chunks_rest}
-use Rattle.sensitive_receiver.specs.HeldLanes.{HeldBank, StandsFor, bank_of}
+use Rattle.sensitive_receiver.specs.HeardBlock.{HearsBlock}
+use Rattle.sensitive_receiver.specs.HeldLanes.{HeldBank, bank_of}
 use Rattle.sensitive_receiver.proofs.BankLemmas.{HasFed, all_done, fed_more, fed_none}
 use Rattle.sensitive_receiver.proofs.pieces.feed_block.Goals as goal
 
 pub loop-piece-init : goal.loop-piece-init
-loop-piece-init c =
+loop-piece-init g c =
     let old : HeldBank = bank_of c.args.line.now c.args.alone.now c.args.near.now c.args.far.now in (
       search rules,
       search rules,
@@ -19,7 +20,7 @@ loop-piece-init c =
 
 -- what was given so far, and how far that is, with a piece more
 pub loop-piece-preserved : goal.loop-piece-preserved
-loop-piece-preserved c =
+loop-piece-preserved g c =
     let piece : List ℤ = c.in-Some.piece.now in
     let rest : List ℤ = chunks_rest c.next.new.self in
     let before = c.loop-piece.invariant in
@@ -36,42 +37,31 @@ loop-piece-preserved c =
       done ++ piece,
       append_assoc done piece rest ∙ whole,
       subst (HasFed old now (done ++ piece)) (sym c.in_ok-append.ensures.items)
-          (fed_more old was now done piece c.loop-piece.found.items
-          c.in_ok-more.more.items before.5 c.in_ok-more.ensures.count c.in_ok-more.ensures.found
-          c.in_ok-more.ensures.bounds c.in_ok-more.ensures.at),
+          (fed_more old was now done piece c.loop-piece.found.items c.in_ok-more.more.items before.5
+          (record { heard = c.in_ok-more.ensures.heard; at = c.in_ok-more.ensures.at })),
     )
 
 -- the whole block is done
-pub returns-clause-found : goal.returns-clause-found
-returns-clause-found c = λ x h.
+pub returns-clause-heard : goal.returns-clause-heard
+returns-clause-heard g c =
     let before = c.loop-piece.invariant in
     let whole = all_done before.3 (chunks_rest c.loop-piece.piece-iterator) c.args.block.now before.4
     c.in-None.ensures.steps.1.0 in
-    subst (λ done. StandsFor (bank_of c.loop-piece.line c.loop-piece.alone c.loop-piece.near c.loop-piece.far) (x ++ done)
-    × AreAddedBetween (added_places (length x)) (added_places (length (x ++ done))) (x ++ done)
-    c.loop-piece.found.items) whole (before.5.fed x h)
-
-pub returns-clause-count : goal.returns-clause-count
-returns-clause-count c =
-    let before = c.loop-piece.invariant in
-    let whole = all_done before.3 (chunks_rest c.loop-piece.piece-iterator) c.args.block.now before.4
-    c.in-None.ensures.steps.1.0 in
-    before.5.position ∙ ap (λ (l : List ℤ). c.args.line.now.count + length l) whole
-
-pub returns-clause-bounds : goal.returns-clause-bounds
-returns-clause-bounds c = c.loop-piece.invariant.5.bounds
+    let old : HeldBank = bank_of c.args.line.now c.args.alone.now c.args.near.now c.args.far.now in
+    let now : HeldBank = bank_of c.loop-piece.line c.loop-piece.alone c.loop-piece.near c.loop-piece.far in
+    subst (λ done. HearsBlock old now done c.loop-piece.found.items) whole before.5.heard
 
 pub returns-clause-at : goal.returns-clause-at
-returns-clause-at c = c.loop-piece.invariant.5.at
+returns-clause-at g c = c.loop-piece.invariant.5.at
 
 -- a piece has room, as the block has
 pub feed_piece-requires-clause-room : goal.feed_piece-requires-clause-room
-feed_piece-requires-clause-room c =
+feed_piece-requires-clause-room g c =
     let piece : List ℤ = c.in-Some.piece.now in
     let rest : List ℤ = chunks_rest c.next.new.self in
     let before = c.loop-piece.invariant in
     let done : List ℤ = before.3 in
-    let at = before.5.position in
+    let at = before.5.heard.position in
     let room = c.requires.room in
     let whole : done ++ (piece ++ rest) ≡ c.args.block.now = ap (λ t. done ++ t) (sym c.in-Some.ensures.steps.1.0)
     ∙ before.4 in
@@ -79,4 +69,4 @@ feed_piece-requires-clause-room c =
     omega (arith, length-append done (piece ++ rest), length-append piece rest)
 
 pub feed_piece-requires-clause-at : goal.feed_piece-requires-clause-at
-feed_piece-requires-clause-at c = c.loop-piece.invariant.5.at
+feed_piece-requires-clause-at g c = c.loop-piece.invariant.5.at

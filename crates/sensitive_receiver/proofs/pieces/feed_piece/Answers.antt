@@ -1,24 +1,14 @@
-use Rattle.sensitive_receiver.proofs.Common.{◌-◌, arith}
-use Rattle.tone_tracking.specs.HeldLine.{decided_in}
-use Rattle.sensitive_receiver.proofs.BankLemmas.{all_bounds, piece_at, piece_fed}
+use Rattle.sensitive_receiver.proofs.BankLemmas.{piece_heard}
 use Rattle.sensitive_receiver.proofs.pieces.feed_piece.Goals as goal
 
-pub returns-clause-found : goal.returns-clause-found
-returns-clause-found c = λ x h.
-    piece_fed c.args.line.now c.feed.new.self c.args.alone.now c.args.near.now c.args.far.now
-    c.feed_lists.new.alone c.feed_lists.new.near c.feed_lists.new.far c.line.result.now c.args.piece.now
-    c.in_ok-found.found.items x c.in_ok-feed.ensures.has_taken c.in_ok-feed.ensures.first
-    c.line.ensures.tones c.line.ensures.length c.in_ok-found.ensures h
-
-pub returns-clause-bounds : goal.returns-clause-bounds
-returns-clause-bounds c =
-    all_bounds (decided_in c.args.line.now.count) (c.args.line.now.count - 32) c.args.alone.now c.args.near.now
-    c.args.far.now c.feed_lists.new.alone c.feed_lists.new.near c.feed_lists.new.far c.line.result.now
-    c.in_ok-found.found.items c.requires.at (omega arith) c.in_ok-found.ensures
+pub returns-clause-heard : goal.returns-clause-heard
+returns-clause-heard g c =
+    (piece_heard c.args.line.now c.decide.new.line c.args.alone.now c.args.near.now c.args.far.now
+    c.read.new.alone c.read.new.near c.read.new.far c.line.result.now c.args.piece.now c.in_ok-found.found.items
+    c.in_ok-decide.ensures c.line.ensures.tones c.line.ensures.length c.in_ok-found.ensures c.requires.at).heard
 
 pub returns-clause-at : goal.returns-clause-at
-returns-clause-at c =
-    piece_at c.args.line.now c.feed.new.self c.args.alone.now c.args.near.now c.args.far.now
-    c.feed_lists.new.alone c.feed_lists.new.near c.feed_lists.new.far c.line.result.now c.args.piece.now
-    c.in_ok-found.found.items c.in_ok-feed.ensures.count c.in_ok-feed.ensures.first c.line.ensures.length
-    c.in_ok-found.ensures c.requires.at
+returns-clause-at g c =
+    (piece_heard c.args.line.now c.decide.new.line c.args.alone.now c.args.near.now c.args.far.now
+    c.read.new.alone c.read.new.near c.read.new.far c.line.result.now c.args.piece.now c.in_ok-found.found.items
+    c.in_ok-decide.ensures c.line.ensures.tones c.line.ensures.length c.in_ok-found.ensures c.requires.at).at
