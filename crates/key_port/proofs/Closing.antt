@@ -3,7 +3,7 @@ use Rattle.std.proofs.Common.{◌≡◌, ◌≢◌, ℕ, List, [], ◌∷◌, �
 use Rattle.std.proofs.lemmas.List.{append_assoc}
 use Rattle.std.proofs.lemmas.List.Elements.{All-from_recursion, recursion_from_All, All-nil, All-append}
 use Rattle.std.specs.List.{AllByRecursion}
-use Rattle.std.specs.Prelude.{Bool, true, false, not, Option, Some, None, option_map, All}
+use Rattle.std.specs.Prelude.{Bool, true, false, not, Option, Some, option_map}
 use Rattle.keying.specs.declared.ending.Ending.{Ending}
 use Rattle.keying.specs.declared.ending.Ending.TheVariants.{Over}
 use Rattle.keying.specs.declared.line.End.{End}
@@ -25,9 +25,9 @@ use Rattle.key_port.specs.KeyEvents.{KeyEvent, Task, Obeys, Does, marks_of, asks
 use Rattle.key_port.specs.KeyEvents.{tasks_of_next, tasks_of_ending}
 use Rattle.key_port.specs.KeyEvents.KeyEvent.{Called, Began, NotBegun, Wrote, NotWritten, HungUp}
 use Rattle.key_port.specs.KeyFaults.{has_failed}
-use Rattle.key_port.specs.KeyLines.{KeyLine, with_last, after_read}
+use Rattle.key_port.specs.KeyLines.{LineTold, with_last, after_read}
 use Rattle.key_port.specs.KeySides.{HasDone, GoesOn, DoesRelease, Closes, port_of}
-use Rattle.key_port.specs.KeyTasks.{IsDoing, DoesTasks, LineTold, LineGoes, FaultsGo, lines_given_up}
+use Rattle.key_port.specs.KeyTasks.{IsDoing, DoesTasks, LineGoes, lines_given_up}
 use Rattle.key_port.proofs.Bridge.{closing_phase}
 use Rattle.key_port.proofs.Sides.{called_doing, gave_up, given_up, after_given_up, same_new}
 use Rattle.key_port.proofs.Steps.{line_step, count_read}
@@ -190,20 +190,17 @@ pub closes_on : (words : Words) (octets : ℕ) (written : Option (List ℕ)) (ke
     → (first : GoesOn (λ new. Closes words octets keyed new) words octets written keyed side before come)
     → GoesOn (λ new. Closes words octets first.new new × (is_over ≡ true → IsOver words new)) words octets written
     first.new later come after
-    → port_of later ≡ port_of side → rested.lines ≡ after.lines → rested.faults ≡ after.faults
+    → port_of later ≡ port_of side → rested ≡ after
     → GoesOn (λ new. Closes words octets keyed new) words octets written keyed later before rested
-closes_on words octets written keyed is_over side later before come after rested first second at lines faults =
-    let P : Option (List KeyLine) → Type 0 =
-    λ ls. LineGoes (port_of later) octets written keyed second.new before.lines ls in
-    let Q : ℕ → Type 0 = λ f. FaultsGo keyed second.new before.faults f in
-    record {
+closes_on words octets written keyed is_over side later before come after rested first second at same =
+    let P : LineTold → Type 0 = GoesOn (λ new. Closes words octets keyed new) words octets written keyed later before in
+    subst P (sym same) (record {
       new = second.new;
       is = closes_more words octets keyed first.new second.new first.is second.is.0;
       done = second.done;
-      line = subst P (sym lines) (line_on octets written keyed first.new second.new side later before come after at
-          first.line second.line);
-      faults = subst Q (sym faults) (λ start counted. second.faults start (first.faults start counted));
-    }
+      line = line_on octets written keyed first.new second.new side later before come after at first.line second.line;
+      faults = λ start counted. second.faults start (first.faults start counted);
+    })
 
 -- the last call
 pub closed : (words : Words) (octets : ℕ) (written : Option (List ℕ)) (keyed : List KeyEvent) (is_over : Bool)

@@ -1,13 +1,12 @@
 -- The last connection by its index, and calls of a script by theirs.
-use Rattle.std.proofs.Common.{◌≡◌, ◌≢◌, ◌<◌, ℕ, ◌+◌, zero, suc, List, [], ◌∷◌, ◌++◌, length, get_or, set, drop}
-use Rattle.std.proofs.Common.{refl, ap, sym, ◌∙◌, arith, add-one}
+use Rattle.std.proofs.Common.{◌≡◌, ◌≢◌, ◌<◌, ℕ, ◌+◌, zero, suc, List, [], ◌∷◌, length, get_or, set, drop}
+use Rattle.std.proofs.Common.{refl, ap, ◌∙◌, arith}
 use Rattle.std.proofs.Math.Seq.{drop-cons}
 use Rattle.std.proofs.lemmas.Bool.{eq-eqb, ne_eqb}
 use Rattle.std.proofs.lemmas.List.{append-nil}
-use Rattle.std.specs.Prelude.{not, ◌==◌, ◌||◌, Bool, true, false, if◌then◌else◌, Option, Some, None, Result, Ok, Err}
+use Rattle.std.specs.Prelude.{not, ◌||◌, Bool, true, false, if◌then◌else◌, Option, Some, Result, Ok, Err}
 use Rattle.std.specs.Prelude.{OnOk}
 use Rattle.keying.specs.declared.line.End.{End}
-use Rattle.keying.specs.declared.line.End.TheVariants.{Fault}
 use Rattle.key_port.specs.declared.mem_key.KeyOutcome.{KeyOutcome}
 use Rattle.key_port.specs.KeyLines.{KeyLine, with_last, is_open, after_read, is_closed}
 use Rattle.key_port.specs.KeyScripts.{scripted}

@@ -1,7 +1,7 @@
 -- A call of the machine, with all that it asks for on the line.
 use Rattle.std.proofs.Common.{◌≡◌, ◌≢◌, ℕ, List, [], ◌∷◌, ◌++◌, refl, ap, sym, subst, ◌∙◌}
 use Rattle.std.proofs.lemmas.List.{append_assoc}
-use Rattle.std.specs.Prelude.{Bool, true, false, drop, Option, Some, None, option_map}
+use Rattle.std.specs.Prelude.{Bool, true, false, drop, Option, Some, option_map}
 use Rattle.keying.specs.declared.command.Command.{Command}
 use Rattle.keying.specs.declared.line.End.{End}
 use Rattle.keying.specs.declared.line.End.TheVariants.{Fault}
@@ -11,7 +11,7 @@ use Rattle.keying.specs.declared.report.Why.{Why}
 use Rattle.keying.specs.declared.ticking.Act.{Act}
 use Rattle.keying.specs.declared.turning.Turn.{Turn as Told}
 use Rattle.keying.specs.Calls.{Call, called, turned, ticked, written as after_write_of}
-use Rattle.keying.specs.Calls.Call.{Turn, Tick, AfterWrite, Release}
+use Rattle.keying.specs.Calls.Call.{Turn, Tick, AfterWrite}
 use Rattle.keying.specs.Kept.{StandsFor}
 use Rattle.keying.specs.Key.{Key, key_of}
 use Rattle.keying.specs.Told.{turn_told, tick_told, written_told}
@@ -22,9 +22,9 @@ use Rattle.key_port.specs.KeyEvents.{lost_report, tick_report, turn_reports, tas
 use Rattle.key_port.specs.KeyEvents.KeyEvent.{Called, HungUp}
 use Rattle.key_port.specs.KeyEvents.Task.{GiveUp}
 use Rattle.key_port.specs.KeyFaults.{has_failed}
-use Rattle.key_port.specs.KeyLines.{with_last, after_read, after_drop}
+use Rattle.key_port.specs.KeyLines.{LineTold, with_last, after_read, after_drop}
 use Rattle.key_port.specs.KeySides.{DoesCall, port_of}
-use Rattle.key_port.specs.KeyTasks.{IsDoing, DoesTasks, LineTold, LineGoes, FaultsGo, lines_given_up}
+use Rattle.key_port.specs.KeyTasks.{IsDoing, DoesTasks, LineGoes, FaultsGo, lines_given_up}
 use Rattle.key_port.proofs.Steps.{obeys_next, line_step, count_same, count_read, prepended}
 
 -- the machine was called

@@ -2,7 +2,7 @@
 use Rattle.std.proofs.Common.{◌≡◌, ◌≢◌, ℕ, ◌+◌, List, [], ◌∷◌, ◌++◌, length, refl, ap, sym, subst, ◌∙◌, arith}
 use Rattle.std.proofs.lemmas.List.{append_assoc}
 use Rattle.std.proofs.lemmas.List.Elements.{All-from_recursion, All-append}
-use Rattle.std.specs.Prelude.{Bool, true, false, ◌||◌, Option, Some, None, option_map, All}
+use Rattle.std.specs.Prelude.{Bool, true, false, ◌||◌, Option, Some, None, option_map}
 use Rattle.keying.specs.declared.command.Command.{Command}
 use Rattle.keying.specs.declared.line.End.{End}
 use Rattle.keying.specs.declared.line.End.TheVariants.{Closed, Fault}
@@ -13,9 +13,9 @@ use Rattle.tnc_base.specs.Faults.{HasRisen}
 use Rattle.key_port.specs.KeyCalls.{FollowsUp, StandsAt}
 use Rattle.key_port.specs.KeyEvents.{KeyEvent, Task, Obeys, Does, lines_of, to_do, reports_of}
 use Rattle.key_port.specs.KeyEvents.KeyEvent.{Wrote}
-use Rattle.key_port.specs.KeyFaults.{has_failed, is_fault}
-use Rattle.key_port.specs.KeyLines.{KeyLine, with_last, after_write}
-use Rattle.key_port.specs.KeyTasks.{IsDoing, DoesTasks, LineTold, HasOctets, LineGoes, CountsIf, FaultsGo}
+use Rattle.key_port.specs.KeyFaults.{is_fault}
+use Rattle.key_port.specs.KeyLines.{KeyLine, LineTold, with_last, after_write}
+use Rattle.key_port.specs.KeyTasks.{DoesTasks, LineGoes, CountsIf, FaultsGo}
 
 pub obeys_next : (words : Words) (event : KeyEvent) (events : List KeyEvent) (tasks : List Task)
     → to_do words events ≡ tasks → Obeys words events → Does event tasks → Obeys words (event ∷ events)

@@ -20,8 +20,8 @@ use Rattle.key_port.specs.KeyEvents.{KeyEvent, Task, marks_of, reports_of, lost_
 use Rattle.key_port.specs.KeyEvents.KeyEvent.{Called, Began, NotBegun, Wrote, NotWritten, HungUp}
 use Rattle.key_port.specs.KeyEvents.Task.{Connect, Open, Write, Tell, GiveUp}
 use Rattle.key_port.specs.KeyFaults.{has_failed}
-use Rattle.key_port.specs.KeyLines.{KeyLine, with_last, after_connect, after_write, after_drop}
-use Rattle.key_port.specs.KeyTasks.{IsDoing, DoesTasks, LineTold, LineGoes, FaultsGo}
+use Rattle.key_port.specs.KeyLines.{LineTold, with_last, after_connect, after_write, after_drop}
+use Rattle.key_port.specs.KeyTasks.{IsDoing, DoesTasks}
 use Rattle.key_port.proofs.Steps.{obeys_next, line_step, line_wrote, count_more, count_same, prepended}
 
 -- ---- nothing is left

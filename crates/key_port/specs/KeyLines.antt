@@ -20,6 +20,11 @@ pub record KeyLine : Type 0 where
   -- it was given up
   pub dropped : Bool
 
+-- what a line tells: the connections so far, if it tells them, and how often a call of it has failed
+pub record LineTold : Type 0 where
+  pub lines : Option (List KeyLine)
+  pub faults : ℕ
+
 abbrev pub new_line : ℕ → KeyLine
 new_line port = record { port = port; steps = []; ended = false; dropped = false }
 

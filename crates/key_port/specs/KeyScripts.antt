@@ -1,5 +1,5 @@
 -- What contracts see of a line in memory, whose calls go as a script says.
-use Rattle.std.specs.Prelude.{ℕ, ◌+◌, ◌==◌, ◌^◌, ◌-◌, min, Bool, true, false, if◌then◌else◌, List, [], ◌∷◌, Option}
+use Rattle.std.specs.Prelude.{ℕ, ◌+◌, ◌==◌, ◌^◌, ◌-◌, min, if◌then◌else◌, List, [], ◌∷◌, Option}
 use Rattle.std.specs.Prelude.{Some, None}
 use Rattle.key_port.specs.declared.mem_key.KeyOutcome.{KeyOutcome}
 use Rattle.key_port.specs.KeyLines.{KeyLine}

@@ -7,7 +7,8 @@ use Rattle.key_port.specs.declared.key_side.KeyReports.{KeyReports}
 use Rattle.key_port.specs.declared.key_side.KeySide.{KeySide}
 use Rattle.key_port.specs.KeyCalls.{MakesCall, IsReleased, Releases, StandsAt}
 use Rattle.key_port.specs.KeyEvents.{KeyEvent, ready_report, lost_report, tick_report}
-use Rattle.key_port.specs.KeyTasks.{IsDoing, LineTold, LineGoes, FaultsGo}
+use Rattle.key_port.specs.KeyLines.{LineTold}
+use Rattle.key_port.specs.KeyTasks.{IsDoing, LineGoes, FaultsGo}
 
 -- the port of its line
 abbrev pub port_of : KeySide → ℕ

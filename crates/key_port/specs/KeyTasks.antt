@@ -5,7 +5,7 @@ use Rattle.keying.specs.declared.report.Report.{Report}
 use Rattle.keying.specs.Kept.{StandsFor}
 use Rattle.keying.specs.Key.{Key}
 use Rattle.tnc_base.specs.Faults.{HasRisen}
-use Rattle.key_port.specs.KeyLines.{KeyLine, with_last, after_drop}
+use Rattle.key_port.specs.KeyLines.{KeyLine, LineTold, with_last, after_drop}
 use Rattle.key_port.specs.KeyEvents.{KeyEvent, Task, Obeys, marks_of, lines_of, to_do, reports_of}
 use Rattle.key_port.specs.KeyCalls.{FollowsUp, StandsAt}
 use Rattle.key_port.specs.KeyFaults.{has_failed}
@@ -17,14 +17,6 @@ pub record IsDoing (words : Words) (tasks : List Task) (events : List KeyEvent) 
   pub left : to_do words events ≡ tasks
 
 -- ---- the line
-
--- what a line tells
-pub record LineTold : Type 0 where
-  pub lines : Option (List KeyLine)
-  pub faults : ℕ
-
-abbrev pub line_told : {K : Type 0} → (K → Option (List KeyLine)) → (K → ℕ) → K → LineTold
-line_told lines faults key = record { lines = lines key; faults = faults key }
 
 -- an output tells that it has so many octets
 pub record HasOctets (written : Option (List ℕ)) (count : ℕ) : Type 0 where

@@ -14,7 +14,7 @@ ghost use Rattle.key_port.specs.KeyEvents.{off_report};
 ghost use Rattle.key_port.specs.KeyEvents.{tasks_of_next, tasks_of_ending, tasks_of_command};
 ghost use Rattle.key_port.specs.KeyEvents.Task.{Connect, Open, Write, Tell};
 ghost use Rattle.key_port.specs.KeySides.{port_of, reports_in, HasDone, GoesOn, DoesCall, DoesRelease, Closes};
-ghost use Rattle.key_port.specs.KeyTasks.{IsDoing, DoesTasks, line_told, lines_given_up};
+ghost use Rattle.key_port.specs.KeyTasks.{IsDoing, DoesTasks, lines_given_up};
 
 use crate::key_port::KeyPort;
 use crate::key_records::KeyWrite;
@@ -85,8 +85,7 @@ impl KeySide {
     ) -> KeyReports
         ensures turned { (words : Words) (octets : ℕ) (keyed : List KeyEvent) → HasDone words keyed self.old
             → (came : List ℕ) × (end : Option End) × DoesCall words octets (O.written output.now)
-            (TurnCall (K.time key.new) came end) keyed (reports_in result) self.new
-            (line_told K.lines K.faults key.old) (line_told K.lines K.faults key.new) }
+            (TurnCall (K.time key.new) came end) keyed (reports_in result) self.new (K.told key.old) (K.told key.new) }
         ensures port { port_of self.new ≡ port_of self.old }
         ensures forward { K.time key.old ≤ K.time key.new }
     {
@@ -108,7 +107,7 @@ impl KeySide {
     ) -> KeyReports
         ensures ticked { (words : Words) (octets : ℕ) (keyed : List KeyEvent) → HasDone words keyed self.old
             → DoesCall words octets (O.written output.now) (Tick sounds) keyed (reports_in result) self.new
-            (line_told K.lines K.faults key.old) (line_told K.lines K.faults key.new) }
+            (K.told key.old) (K.told key.new) }
         ensures port { port_of self.new ≡ port_of self.old }
         ensures time { K.time key.new ≡ K.time key.old }
     {
@@ -126,7 +125,7 @@ impl KeySide {
     ) -> KeyReports
         ensures written { (words : Words) (octets : ℕ) (keyed : List KeyEvent) → HasDone words keyed self.old
             → DoesCall words octets (O.written output.now) (AfterWrite fault) keyed (reports_in result) self.new
-            (line_told K.lines K.faults key.old) (line_told K.lines K.faults key.new) }
+            (K.told key.old) (K.told key.new) }
         ensures port { port_of self.new ≡ port_of self.old }
         ensures time { K.time key.new ≡ K.time key.old }
     {
@@ -144,8 +143,7 @@ impl KeySide {
         output: &O,
     )
         ensures released { (words : Words) (octets : ℕ) (keyed : List KeyEvent) → HasDone words keyed self.old
-            → DoesRelease words octets (O.written output.now) keyed self.new
-            (line_told K.lines K.faults key.old) (line_told K.lines K.faults key.new) }
+            → DoesRelease words octets (O.written output.now) keyed self.new (K.told key.old) (K.told key.new) }
         ensures port { port_of self.new ≡ port_of self.old }
     {
         'asks: for _ in rt.forever() {
@@ -161,8 +159,7 @@ impl KeySide {
     fn close<R: Net, O: Sink, K: KeyPort<O>>(&mut self, rt: &R, key: &mut K, output: &O) -> bool
         ensures closed { (words : Words) (octets : ℕ) (keyed : List KeyEvent) → HasDone words keyed self.old
             → GoesOn (λ new. Closes words octets keyed new × (result ≡ true → IsOver words new)) words octets
-            (O.written output.now) keyed self.new
-            (line_told K.lines K.faults key.old) (line_told K.lines K.faults key.new) }
+            (O.written output.now) keyed self.new (K.told key.old) (K.told key.new) }
         ensures port { port_of self.new ≡ port_of self.old }
     {
         let now = key.now();
@@ -185,7 +182,7 @@ impl KeySide {
         ensures does { (words : Words) (octets : ℕ) (events : List KeyEvent)
             → IsDoing words (tasks_of_next next) events self.old.machine
             → DoesTasks words self.old.port octets (O.written output.now) events (lost_report result) self.new.machine
-            (line_told K.lines K.faults key.old) (line_told K.lines K.faults key.new) }
+            (K.told key.old) (K.told key.new) }
         ensures port { self.new.port ≡ self.old.port }
         ensures time { K.time key.new ≡ K.time key.old }
     {
@@ -207,7 +204,7 @@ impl KeySide {
         ensures does { (words : Words) (octets : ℕ) (events : List KeyEvent) (tasks : List Task)
             → IsDoing words (Connect ∷ tasks) events self.old.machine
             → DoesTasks words self.old.port octets (O.written output.now) events (lost_report result) self.new.machine
-            (line_told K.lines K.faults key.old) (line_told K.lines K.faults key.new) }
+            (K.told key.old) (K.told key.new) }
         ensures port { self.new.port ≡ self.old.port }
         ensures time { K.time key.new ≡ K.time key.old }
     {
@@ -222,7 +219,7 @@ impl KeySide {
         ensures does { (words : Words) (octets : ℕ) (events : List KeyEvent) (tasks : List Task)
             → IsDoing words (Open ∷ tasks) events self.old.machine
             → DoesTasks words self.old.port octets (O.written output.now) events (lost_report result) self.new.machine
-            (line_told K.lines K.faults key.old) (line_told K.lines K.faults key.new) }
+            (K.told key.old) (K.told key.new) }
         ensures port { self.new.port ≡ self.old.port }
         ensures time { K.time key.new ≡ K.time key.old }
     {
@@ -238,7 +235,7 @@ impl KeySide {
         ensures does { (words : Words) (octets : ℕ) (written : Option (List ℕ)) (events : List KeyEvent)
             (tasks : List Task) → IsDoing words (Tell (AfterTry Refused) ∷ tasks) events self.old.machine
             → DoesTasks words self.old.port octets written events (lost_report result) self.new.machine
-            (line_told K.lines K.faults key.old) (line_told K.lines K.faults key.new) }
+            (K.told key.old) (K.told key.new) }
         ensures port { self.new.port ≡ self.old.port }
         ensures time { K.time key.new ≡ K.time key.old }
     {
@@ -257,7 +254,7 @@ impl KeySide {
         ensures does { (words : Words) (octets : ℕ) (events : List KeyEvent)
             → IsDoing words (tasks_of_command command) events self.old.machine
             → DoesTasks words self.old.port octets (O.written output.now) events (lost_report result) self.new.machine
-            (line_told K.lines K.faults key.old) (line_told K.lines K.faults key.new) }
+            (K.told key.old) (K.told key.new) }
         ensures port { self.new.port ≡ self.old.port }
         ensures time { K.time key.new ≡ K.time key.old }
     {
@@ -277,7 +274,7 @@ impl KeySide {
         ensures does { (words : Words) (octets : ℕ) (events : List KeyEvent) (tasks : List Task)
             → IsDoing words (Write command ∷ tasks) events self.old.machine
             → DoesTasks words self.old.port octets (O.written output.now) events (lost_report result) self.new.machine
-            (line_told K.lines K.faults key.old) (line_told K.lines K.faults key.new) }
+            (K.told key.old) (K.told key.new) }
         ensures port { self.new.port ≡ self.old.port }
         ensures time { K.time key.new ≡ K.time key.old }
     {
@@ -306,9 +303,9 @@ fn next_of(ending: Ending) -> Next
 
 /// Gives up the connection, if it is lost.
 fn hang_up_if<O: Sink, K: KeyPort<O>>(lost: bool, key: &mut K, _output: &O)
-    ensures lines { K.lines key.new ≡ lines_given_up lost (K.lines key.old) }
+    ensures lines { (K.told key.new).lines ≡ lines_given_up lost (K.told key.old).lines }
     ensures time { K.time key.new ≡ K.time key.old }
-    ensures faults { K.faults key.new ≡ K.faults key.old }
+    ensures faults { (K.told key.new).faults ≡ (K.told key.old).faults }
 {
     if lost {
         key.hang_up();

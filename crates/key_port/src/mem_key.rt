@@ -203,11 +203,9 @@ impl MemKeyPort {
 }
 
 impl KeyPort<MemSink> for MemKeyPort {
-    ghost lines = { λ s. Some s.lines };
+    ghost told = { λ s. record { lines = Some s.lines; faults = s.faults } };
 
     ghost time = { λ s. s.time };
-
-    ghost faults = { λ s. s.faults };
 
     fn now(&mut self) -> u64
         ensures passed { self.new ≡ record self.old { time = later self.old.pace self.old.time } }

@@ -53,11 +53,9 @@ impl<C: Clock> RealKeyPort<C> {
 }
 
 impl<C: Clock + Drop, O: Sink> KeyPort<O> for RealKeyPort<C> {
-    ghost lines = { λ _. None };
+    ghost told = { λ s. record { lines = None; faults = s.faults } };
 
     ghost time = { λ s. s.time };
-
-    ghost faults = { λ s. s.faults };
 
     /// A clock that fails stands still.
     fn now(&mut self) -> u64 {

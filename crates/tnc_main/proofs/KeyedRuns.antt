@@ -1,8 +1,7 @@
 -- A run with a key is a keyed one, and a run without one leaves the key's line as it was.
 use Rattle.tnc_main.proofs.Common.{◌≡◌, inl, inr, ap, ◌∙◌}
 use Rattle.std.specs.Prelude.{ℕ, false, List, Option, Some, None, option_map}
-use Rattle.key_port.specs.KeyLines.{KeyLine, is_open}
-use Rattle.key_port.specs.KeyTasks.{LineTold}
+use Rattle.key_port.specs.KeyLines.{KeyLine, LineTold, is_open}
 use Rattle.tnc_words.specs.declared.command.PttOptions.{PttOptions}
 use Rattle.tnc_words.specs.declared.command.ServeOptions.{ServeOptions}
 use Rattle.tnc_ports.specs.SampledRun.{Outside}

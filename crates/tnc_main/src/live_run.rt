@@ -51,9 +51,9 @@ pub(crate) fn run_live<
         → (status : Status) × (result ≡ code_of status)
         × Serves (words_of options live.old.seed) status (input_by I.left I.faults input.old)
         (input_by I.left I.faults input.new)
-        (outside_by N.told K.lines K.faults O.written O.faults E.written E.faults
+        (outside_by N.told K.told O.written O.faults E.written E.faults
         live.old.ports live.old.key output.old report.old)
-        (outside_by N.told K.lines K.faults O.written O.faults E.written E.faults
+        (outside_by N.told K.told O.written O.faults E.written E.faults
         live.new.ports live.new.key output.new report.new) }
 
     ensures recorded { (options : RecordOptions) → command ≡ LiveCommand.Record options
@@ -83,9 +83,9 @@ pub(crate) fn run_live<
     ensures want { (options : ServeOptions) → command ≡ LiveCommand.Serve options → result ≡ 3
         → IsServedInWant (words_of options live.old.seed) (W.faults live.old.spawner) (W.faults live.new.spawner)
         (input_by I.left I.faults input.old) (input_by I.left I.faults input.new)
-        (outside_by N.told K.lines K.faults O.written O.faults E.written E.faults
+        (outside_by N.told K.told O.written O.faults E.written E.faults
         live.old.ports live.old.key output.old report.old)
-        (outside_by N.told K.lines K.faults O.written O.faults E.written E.faults
+        (outside_by N.told K.told O.written O.faults E.written E.faults
         live.new.ports live.new.key output.new report.new) }
     ensures no_port { result ≡ 10 → (options : ServeOptions) × (command ≡ LiveCommand.Serve options)
         × HasRisen (N.told live.old.ports).faults (N.told live.new.ports).faults }

@@ -122,23 +122,23 @@ pub fn run<
         → (status : Status) × (result ≡ code_of status)
         × RunsLive options live.old.seed status (input_by I.left I.faults input.old)
         (input_by I.left I.faults input.new)
-        (outside_by N.told K.lines K.faults O.written O.faults E.written E.faults
+        (outside_by N.told K.told O.written O.faults E.written E.faults
         live.old.ports live.old.key output.old report.old)
-        (outside_by N.told K.lines K.faults O.written O.faults E.written E.faults
+        (outside_by N.told K.told O.written O.faults E.written E.faults
         live.new.ports live.new.key output.new report.new) }
 
     ensures keyed { (options : ServeOptions) → (ptt : PttOptions) → (was : List KeyLine) → (out : List ℕ)
         → IsServe (map string_bytes words.now) options → options.ptt ≡ Some ptt
-        → K.lines live.old.key ≡ Some was → is_open was ≡ false → O.written output.old ≡ Some out
+        → (K.told live.old.key).lines ≡ Some was → is_open was ≡ false → O.written output.old ≡ Some out
         → (status : Status) × (result ≡ code_of status)
         × RunsKeyed options ptt live.old.seed was out status (input_by I.left I.faults input.old)
         (input_by I.left I.faults input.new)
-        (outside_by N.told K.lines K.faults O.written O.faults E.written E.faults
+        (outside_by N.told K.told O.written O.faults E.written E.faults
         live.old.ports live.old.key output.old report.old)
-        (outside_by N.told K.lines K.faults O.written O.faults E.written E.faults
+        (outside_by N.told K.told O.written O.faults E.written E.faults
         live.new.ports live.new.key output.new report.new) }
     ensures unkeyed { (options : ServeOptions) → IsServe (map string_bytes words.now) options → options.ptt ≡ None
-        → (K.lines live.new.key ≡ K.lines live.old.key) × (K.faults live.new.key ≡ K.faults live.old.key) }
+        → K.told live.new.key ≡ K.told live.old.key }
 
     ensures recorded { (options : RecordOptions) → IsRecord (map string_bytes words.now) options
         → (status : Status) × (result ≡ code_of status)
@@ -194,9 +194,9 @@ pub fn run<
     ensures no_thread { (options : ServeOptions) → IsServe (map string_bytes words.now) options → result ≡ 3
         → IsInWant options live.old.seed (W.faults live.old.spawner) (W.faults live.new.spawner)
         (input_by I.left I.faults input.old) (input_by I.left I.faults input.new)
-        (outside_by N.told K.lines K.faults O.written O.faults E.written E.faults
+        (outside_by N.told K.told O.written O.faults E.written E.faults
         live.old.ports live.old.key output.old report.old)
-        (outside_by N.told K.lines K.faults O.written O.faults E.written E.faults
+        (outside_by N.told K.told O.written O.faults E.written E.faults
         live.new.ports live.new.key output.new report.new) }
     ensures no_port { result ≡ 10 → (options : ServeOptions) × IsServe (map string_bytes words.now) options
         × HasRisen (N.told live.old.ports).faults (N.told live.new.ports).faults }

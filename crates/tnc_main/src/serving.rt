@@ -53,9 +53,9 @@ pub(crate) fn serve<
     requires dcd { CanBeAskedBy words.listening words.dcd }
     ensures served { (status : Status) × (result ≡ code_of status)
         × Serves words status (input_by I.left I.faults input.old) (input_by I.left I.faults input.new)
-        (outside_by N.told K.lines K.faults O.written O.faults E.written E.faults
+        (outside_by N.told K.told O.written O.faults E.written E.faults
         live.old.ports live.old.key output.old report.old)
-        (outside_by N.told K.lines K.faults O.written O.faults E.written E.faults
+        (outside_by N.told K.told O.written O.faults E.written E.faults
         live.new.ports live.new.key output.new report.new) }
 
     // each status and its cause
@@ -67,9 +67,9 @@ pub(crate) fn serve<
         → HasRisen (O.faults output.old) (O.faults output.new) ⊎ HasRisen (E.faults report.old) (E.faults report.new) }
     ensures want { result ≡ 3 → IsServedInWant words (W.faults live.old.spawner) (W.faults live.new.spawner)
         (input_by I.left I.faults input.old) (input_by I.left I.faults input.new)
-        (outside_by N.told K.lines K.faults O.written O.faults E.written E.faults
+        (outside_by N.told K.told O.written O.faults E.written E.faults
         live.old.ports live.old.key output.old report.old)
-        (outside_by N.told K.lines K.faults O.written O.faults E.written E.faults
+        (outside_by N.told K.told O.written O.faults E.written E.faults
         live.new.ports live.new.key output.new report.new) }
     ensures no_port { result ≡ 10 → HasRisen (N.told live.old.ports).faults (N.told live.new.ports).faults }
     ensures not_called { result ≤ 10 }

@@ -7,8 +7,8 @@ use Rattle.keying.specs.Keyed.{failed}
 use Rattle.key_port.specs.declared.key_side.KeySide.{KeySide}
 use Rattle.key_port.specs.KeyCalls.{IsReleased, StandsAt}
 use Rattle.key_port.specs.KeyEvents.{KeyEvent, marks_of, lines_of}
-use Rattle.key_port.specs.KeyLines.{KeyLine}
-use Rattle.key_port.specs.KeyTasks.{LineTold, LineGoes}
+use Rattle.key_port.specs.KeyLines.{KeyLine, LineTold}
+use Rattle.key_port.specs.KeyTasks.{LineGoes}
 use Rattle.tnc_ports.specs.declared.looping.LoopEnd.{LoopEnd}
 use Rattle.tnc_ports.specs.declared.looping.LoopEnd.TheVariants.{Done, Memory, WriteFault}
 use Rattle.tnc_ports.proofs.Common.{KeyWords, ServeWords, Live, From, KeyedSince, RunsOut, Stream, Turning, Asked}

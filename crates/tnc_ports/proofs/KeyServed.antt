@@ -4,8 +4,7 @@ use Rattle.std.proofs.lemmas.List.{append-nil}
 use Rattle.std.specs.Prelude.{true, false, ℤ, Option, Some, None}
 use Rattle.sound_rate.specs.Rates.{written_at}
 use Rattle.tnc_base.specs.Streams.{WrotePart}
-use Rattle.key_port.specs.KeyLines.{KeyLine, is_open}
-use Rattle.key_port.specs.KeyTasks.{LineTold}
+use Rattle.key_port.specs.KeyLines.{KeyLine, LineTold, is_open}
 use Rattle.tnc_ports.proofs.Common.{AllIsWritten, Got, IsLooped, IsRun, KeyWords, Live, Outside, ServeWords, new_live}
 use Rattle.tnc_ports.proofs.Common.{output_octets}
 use Rattle.tnc_ports.specs.declared.looping.LoopEnd.{LoopEnd}

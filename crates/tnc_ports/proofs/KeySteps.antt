@@ -15,7 +15,8 @@ use Rattle.key_port.specs.KeyEvents.{KeyEvent, marks_of, lines_of}
 use Rattle.key_port.specs.KeyEvents.KeyEvent.{Called}
 use Rattle.key_port.specs.KeyFaults.{has_failed}
 use Rattle.key_port.specs.KeySides.{port_of, HasDone, DoesCall}
-use Rattle.key_port.specs.KeyTasks.{LineTold, LineGoes, HasOctets, CountsIf}
+use Rattle.key_port.specs.KeyLines.{LineTold}
+use Rattle.key_port.specs.KeyTasks.{LineGoes, HasOctets, CountsIf}
 use Rattle.tnc_ports.proofs.Common.{KeyWords, Hosts, Live, From, KeyedSince, Keeps, StandsFor, Stream, Puts, Turning}
 use Rattle.tnc_ports.proofs.Common.{ReportLine, ServeWords}
 use Rattle.tnc_ports.proofs.Common.{TurnsTheKey, TurnsKeyIf, key_line, octets_sent, report_text, with_lines}

@@ -12,7 +12,7 @@ use Rattle.key_port.specs.KeyCalls.{MakesCall}
 use Rattle.key_port.specs.KeyEvents.{KeyEvent, marks_of}
 use Rattle.key_port.specs.KeyEvents.KeyEvent.{Called}
 use Rattle.key_port.specs.KeySides.{port_of, DoesCall}
-use Rattle.key_port.specs.KeyTasks.{LineTold}
+use Rattle.key_port.specs.KeyLines.{LineTold}
 use Rattle.tnc_ports.proofs.Common.{KeyWords, Hosts, Live, From, Stream, Puts, ReportLine}
 use Rattle.tnc_ports.proofs.Common.{TicksKeyIf, Whole, key_line, octets_sent, output_octets, report_text, with_lines}
 use Rattle.tnc_ports.specs.KeyTurns.{told_whole}

@@ -13,8 +13,7 @@ use Rattle.tnc_ports.specs.SampledHeld.{output_of, report_of}
 use Rattle.tnc_ports.proofs.Common.{From, KeyWords, KeyedSince, RunsOut, from_of}
 use Rattle.std.specs.Prelude.{Option, None, List, length, option_map}
 use Rattle.key_port.specs.KeyEvents.{lines_of}
-use Rattle.key_port.specs.KeyLines.{KeyLine}
-use Rattle.key_port.specs.KeyTasks.{LineTold}
+use Rattle.key_port.specs.KeyLines.{KeyLine, LineTold}
 use Rattle.tnc_ports.specs.SampledHeld.{KeyStands, LineStands, IsOutputSince, IsReportSince, IsRunOut, IsWrittenSince}
 use Rattle.tnc_ports.specs.SampledRun.{PortsStay, PartIsWritten, IsWhole, AllIsWrittenAsTold, key_failed}
 use Rattle.tnc_ports.proofs.LiveSteps.{turns_more}

@@ -33,7 +33,7 @@ use Rattle.tnc_ports.specs.ServeRun.{HasOpened, HasServed, IsServed}
 use Rattle.tnc_ports.specs.SampledPump.{IsClosed, IsLoopedIf}
 use Rattle.tnc_ports.proofs.LiveAccounts.{are_sent, are_shut}
 use Rattle.tnc_ports.proofs.Common.{from_of}
-use Rattle.key_port.specs.KeyTasks.{LineTold}
+use Rattle.key_port.specs.KeyLines.{LineTold}
 use Rattle.tnc_ports.specs.SampledHeld.{IsReleasedSince}
 use Rattle.tnc_ports.proofs.KeyReleases.{cut_on, as_told_on, key_told}
 use Rattle.tnc_ports.proofs.LiveLoop.{first_written, first_untold}

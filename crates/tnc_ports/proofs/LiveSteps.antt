@@ -8,7 +8,7 @@ use Rattle.tnc_ports.proofs.Common.{IsTurn, ReceivedLine, SentLine, with_lines, 
 use Rattle.tnc_ports.proofs.Common.{IsFrameHeard, Keeps, HearsFrames, HearsSome, Ticks, TicksAll, ServesAll}
 use Rattle.tnc_ports.proofs.Common.{AreTurns, Stream, Puts, ReportsMore, WritesMore, ServeWords, From, KeyedSince}
 use Rattle.key_port.specs.declared.key_side.KeySide.{KeySide}
-use Rattle.key_port.specs.KeyTasks.{LineTold}
+use Rattle.key_port.specs.KeyLines.{LineTold}
 use Rattle.tnc_ports.specs.SampledHeld.{KeyStands, LineStands, IsWrittenSince}
 use Rattle.tnc_ports.specs.SampledRun.{key_failed}
 use Rattle.std.proofs.Common.{zero, suc, List, ◌∷◌}

@@ -6,7 +6,7 @@ use Rattle.keying.specs.declared.report.Report.{Report}
 use Rattle.keying.specs.Calls.Call.{Tick, AfterWrite}
 use Rattle.key_port.specs.declared.key_side.KeySide.{KeySide}
 use Rattle.key_port.specs.KeyEvents.{KeyEvent}
-use Rattle.key_port.specs.KeyTasks.{LineTold}
+use Rattle.key_port.specs.KeyLines.{LineTold}
 use Rattle.tnc_ports.proofs.Common.{AirTick, AreSentLines, From, Hosts, IsTickMade, Keeps, KeyWords, KeyedSince, Live}
 use Rattle.tnc_ports.proofs.Common.{Puts, ReportLine, ServeWords, StandsFor, Stream, TicksAll, Turning, append_assoc}
 use Rattle.tnc_ports.proofs.Common.{is_held, key_line, output_octets, report_text, with_lines}

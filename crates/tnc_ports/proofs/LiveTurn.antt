@@ -24,7 +24,7 @@ use Rattle.tnc_ports.proofs.Common.{From, IsKeyTurn, KeyWords, KeyedSince, Turns
 use Rattle.std.specs.Prelude.{Option, Some, None}
 use Rattle.key_port.specs.declared.key_side.KeySide.{KeySide}
 use Rattle.key_port.specs.KeyEvents.{KeyEvent}
-use Rattle.key_port.specs.KeyTasks.{LineTold}
+use Rattle.key_port.specs.KeyLines.{LineTold}
 use Rattle.tnc_ports.specs.SampledHeld.{KeyStands, LineStands, IsWrittenSince}
 use Rattle.tnc_ports.specs.SampledWrites.{ReportsMore}
 use Rattle.tnc_ports.specs.ReportText.{report_text}

@@ -10,7 +10,8 @@ use Rattle.key_port.specs.KeyCalls.{IsReleased}
 use Rattle.key_port.specs.KeyEvents.{KeyEvent, lines_of}
 use Rattle.key_port.specs.KeyFaults.{has_failed}
 use Rattle.key_port.specs.KeySides.{port_of, HasDone, DoesCall, DoesRelease}
-use Rattle.key_port.specs.KeyTasks.{LineTold, CountsIf}
+use Rattle.key_port.specs.KeyLines.{LineTold}
+use Rattle.key_port.specs.KeyTasks.{CountsIf}
 use Rattle.sample_ring.specs.declared.got.Got.{Got}
 use Rattle.slicer_bank.specs.HeardOnRing.{least_position}
 use Rattle.slicer_bank.specs.RingLanes.{answers_of}

@@ -11,8 +11,8 @@ use Rattle.keying.specs.Keyed.{failed}
 use Rattle.key_port.specs.KeyCalls.{IsReleased}
 use Rattle.key_port.specs.KeyEvents.{KeyEvent, marks_of, lines_of}
 use Rattle.key_port.specs.KeyFaults.{has_failed}
-use Rattle.key_port.specs.KeyLines.{KeyLine}
-use Rattle.key_port.specs.KeyTasks.{LineTold, line_told, CountsIf}
+use Rattle.key_port.specs.KeyLines.{KeyLine, LineTold}
+use Rattle.key_port.specs.KeyTasks.{CountsIf}
 use Rattle.sound_rate.specs.Rates.{written_at}
 use Rattle.tnc_base.specs.Faults.{HasRisen}
 use Rattle.tnc_base.specs.Streams.{WrotePart}
@@ -102,12 +102,12 @@ pub record Outside : Type 0 where
   pub report : Option (List ℕ)
   pub report_faults : ℕ
 
-abbrev pub outside_by : {P K O E : Type 0} → (P → PortsTold) → (K → Option (List KeyLine)) → (K → ℕ)
-    → (O → Option (List ℕ)) → (O → ℕ) → (E → Option (List ℕ)) → (E → ℕ) → P → K → O → E → Outside
-outside_by told lines line_faults written faults reported report_faults ports key output report =
+abbrev pub outside_by : {P K O E : Type 0} → (P → PortsTold) → (K → LineTold) → (O → Option (List ℕ)) → (O → ℕ)
+    → (E → Option (List ℕ)) → (E → ℕ) → P → K → O → E → Outside
+outside_by ports_told line_told written faults reported report_faults ports key output report =
     record {
-      ports = told ports;
-      line = line_told lines line_faults key;
+      ports = ports_told ports;
+      line = line_told key;
       output = written output;
       output_faults = faults output;
       report = reported report;

@@ -1,7 +1,6 @@
 //! The key of a live station: how it is made, and how it is released at the end of the run.
 ghost use Rattle.std.specs.Prelude.{◌≡◌, ℕ, [], List, Option, Some, None};
 ghost use Rattle.key_port.specs.KeyEvents.{KeyEvent};
-ghost use Rattle.key_port.specs.KeyTasks.{line_told};
 ghost use Rattle.tnc_ports.specs.declared.serve_words.KeyWords.{KeyWords};
 ghost use Rattle.tnc_ports.specs.SampledHeld.{KeyStands, ReleasesKey};
 
@@ -29,8 +28,7 @@ pub(crate) fn release_key<R: Net + Wait, O: Sink, K: KeyPort<O>>(
     key: &mut K,
 )
     ensures { (words : Option KeyWords) (octets : ℕ) (keyed : List KeyEvent) → KeyStands words side.old keyed
-        → ReleasesKey words octets (O.written output.now) keyed side.new
-        (line_told K.lines K.faults key.old) (line_told K.lines K.faults key.new) }
+        → ReleasesKey words octets (O.written output.now) keyed side.new (K.told key.old) (K.told key.new) }
 {
     if let Some(side) = side {
         side.release(rt, key, output);

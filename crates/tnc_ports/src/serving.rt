@@ -82,9 +82,9 @@ pub fn serve<
     requires window { (window : ℕ) → ¬ IsRefusedWindow words.config.params window }
     requires dcd { CanBeAskedBy words.listening words.dcd }
     ensures served { IsServed words result (input_by I.left I.faults input.old) (input_by I.left I.faults input.new)
-        (outside_by N.told K.lines K.faults O.written O.faults E.written E.faults
+        (outside_by N.told K.told O.written O.faults E.written E.faults
         live.old.ports live.old.key output.old report.old)
-        (outside_by N.told K.lines K.faults O.written O.faults E.written E.faults
+        (outside_by N.told K.told O.written O.faults E.written E.faults
         live.new.ports live.new.key output.new report.new) }
     ensures no_thread { result ≡ ServeEnd.NoThread → HasRisen (W.faults live.old.spawner) (W.faults live.new.spawner) }
     ensures thread { result ≢ ServeEnd.NoThread → W.faults live.new.spawner ≡ W.faults live.old.spawner }
@@ -169,10 +169,8 @@ fn run_beside<
     ensures sound { IsSoundOf ring.now sound.new }
     ensures looped { IsLoopedIf (is_some result) words.now end.new
         (answers_if (ring_len ring.now) receiver.new sound.new)
-        (outside_by N.told K.lines K.faults O.written O.faults E.written E.faults
-        ports.old key.old output.old report.old)
-        (outside_by N.told K.lines K.faults O.written O.faults E.written E.faults
-        ports.new key.new output.new report.new) }
+        (outside_by N.told K.told O.written O.faults E.written E.faults ports.old key.old output.old report.old)
+        (outside_by N.told K.told O.written O.faults E.written E.faults ports.new key.new output.new report.new) }
     ensures counted { CountsUnless (is_some result) (W.faults spawner.old) (W.faults spawner.new) }
     ensures dials { (N.told ports.new).dials ≡ (N.told ports.old).dials }
 {
@@ -191,9 +189,9 @@ fn run_beside<
                 × IsSoundOf ring.entry.now sound.exit.now
                 × IsLoopedIf begins words.entry.now end.exit.now
                 (answers_if (ring_len ring.entry.now) receiver.exit.now sound.exit.now)
-                (outside_by N.told K.lines K.faults O.written O.faults E.written E.faults
+                (outside_by N.told K.told O.written O.faults E.written E.faults
                 ports.entry.now key.entry.now output.entry.now report.entry.now)
-                (outside_by N.told K.lines K.faults O.written O.faults E.written E.faults
+                (outside_by N.told K.told O.written O.faults E.written E.faults
                 ports.exit.now key.exit.now output.exit.now report.exit.now)
                 × ((N.told ports.exit.now).dials ≡ (N.told ports.entry.now).dials) }
         {
@@ -225,10 +223,8 @@ fn loop_if<R: Threads + Wait + Net + Sync, O: Sink, E: Sink, N: Ports, K: KeyPor
     ensures readers { All (λ reader. reader_ring reader ≡ ring_id ring.now) (readers_in receiver.new) }
     ensures sound { IsSoundOf ring.now sound.new }
     ensures looped { IsLoopedIf begins words.now end.new (answers_if (ring_len ring.now) receiver.new sound.new)
-        (outside_by N.told K.lines K.faults O.written O.faults E.written E.faults
-        ports.old key.old output.old report.old)
-        (outside_by N.told K.lines K.faults O.written O.faults E.written E.faults
-        ports.new key.new output.new report.new) }
+        (outside_by N.told K.told O.written O.faults E.written E.faults ports.old key.old output.old report.old)
+        (outside_by N.told K.told O.written O.faults E.written E.faults ports.new key.new output.new report.new) }
     ensures dials { (N.told ports.new).dials ≡ (N.told ports.old).dials }
 {
     if begins {

@@ -9,7 +9,6 @@ ghost use Rattle.hdlc_framer.specs.FrameLength.{HasFrameLength};
 ghost use Rattle.keying.specs.Calls.Call.{Tick as KeyTick, AfterWrite as KeyAfterWrite};
 ghost use Rattle.key_port.specs.KeyEvents.{KeyEvent};
 ghost use Rattle.key_port.specs.KeySides.{reports_in};
-ghost use Rattle.key_port.specs.KeyTasks.{line_told};
 ghost use Rattle.channel_access.specs.Sound.{has_sound};
 ghost use Rattle.ax25_address.specs.declared.path.Path.{Path};
 ghost use Rattle.sample_ring.specs.Ends.{ring_id, ring_len, reader_ring};
@@ -98,20 +97,18 @@ impl Turning {
         requires meter { reader_ring self.old.meter.reader ≡ ring_id ring.now }
         ensures turned { (from : From) (live : Live) → StandsForLive self.old (ring_len ring.now) receiver.old live
             → KeyedSince from self.old live (stream_of O.written O.faults output.old)
-            (stream_of E.written E.faults report.old) (line_told K.lines K.faults key.old)
+            (stream_of E.written E.faults report.old) (K.told key.old)
             → IfOk result (λ ended. Turns from ended self.old self.new (ring_len ring.now) receiver.new live
             (stream_of O.written O.faults output.old) (stream_of O.written O.faults output.new)
             (stream_of E.written E.faults report.old) (stream_of E.written E.faults report.new)
-            (N.told ports.old)
-            (N.told ports.new) (line_told K.lines K.faults key.new)) }
+            (N.told ports.old) (N.told ports.new) (K.told key.new)) }
         ensures cut { (from : From) (live : Live) → StandsForLive self.old (ring_len ring.now) receiver.old live
             → KeyedSince from self.old live (stream_of O.written O.faults output.old)
-            (stream_of E.written E.faults report.old) (line_told K.lines K.faults key.old)
+            (stream_of E.written E.faults report.old) (K.told key.old)
             → OnErr result (IsCutOff from self.old self.new (ring_len ring.now) receiver.new live
             (stream_of O.written O.faults output.old) (stream_of O.written O.faults output.new)
             (stream_of E.written E.faults report.old) (stream_of E.written E.faults report.new)
-            (N.told ports.old)
-            (N.told ports.new) (line_told K.lines K.faults key.new)) }
+            (N.told ports.old) (N.told ports.new) (K.told key.new)) }
         ensures words { self.new.words ≡ self.old.words }
         ensures readers { All (λ reader. reader_ring reader ≡ ring_id ring.now) (readers_in receiver.new) }
         ensures detection { detection_of receiver.new ≡ detection_of receiver.old }
@@ -143,18 +140,17 @@ impl Turning {
         requires meter { reader_ring self.old.meter.reader ≡ ring_id ring.now }
         ensures made { (from : From) (live : Live) → StandsForLive self.old (ring_len ring.now) receiver.old live
             → KeyedSince from self.old live (stream_of O.written O.faults output.old)
-            (stream_of E.written E.faults report.old) (line_told K.lines K.faults key.old)
+            (stream_of E.written E.faults report.old) (K.told key.old)
             → IfOk result (λ ended. Makes from ended self.old self.new (ring_len ring.now) receiver.new live
             (stream_of O.written O.faults output.old) (stream_of O.written O.faults output.new)
-            (stream_of E.written E.faults report.old) (stream_of E.written E.faults report.new)
-            (line_told K.lines K.faults key.new)) }
+            (stream_of E.written E.faults report.old) (stream_of E.written E.faults report.new) (K.told key.new)) }
         ensures cut { (from : From) (live : Live) → StandsForLive self.old (ring_len ring.now) receiver.old live
             → KeyedSince from self.old live (stream_of O.written O.faults output.old)
-            (stream_of E.written E.faults report.old) (line_told K.lines K.faults key.old)
+            (stream_of E.written E.faults report.old) (K.told key.old)
             → OnErr result ((told : PortsTold) → IsCutOff from self.old self.new (ring_len ring.now) receiver.new live
             (stream_of O.written O.faults output.old) (stream_of O.written O.faults output.new)
             (stream_of E.written E.faults report.old) (stream_of E.written E.faults report.new) told told
-            (line_told K.lines K.faults key.new)) }
+            (K.told key.new)) }
         ensures words { self.new.words ≡ self.old.words }
         ensures readers { All (λ reader. reader_ring reader ≡ ring_id ring.now) (readers_in receiver.new) }
         ensures detection { detection_of receiver.new ≡ detection_of receiver.old }
@@ -246,10 +242,9 @@ impl Turning {
     )
         ensures turned { (from : From) (live : Live) → Keeps self.old.hosts live.hosts
             → KeyedSince from self.old live (stream_of O.written O.faults output.now)
-            (stream_of E.written E.faults report.old) (line_told K.lines K.faults key.old)
+            (stream_of E.written E.faults report.old) (K.told key.old)
             → TurnsTheKey from self.old self.new live (stream_of O.written O.faults output.now)
-            (stream_of E.written E.faults report.old) (stream_of E.written E.faults report.new)
-            (line_told K.lines K.faults key.new) }
+            (stream_of E.written E.faults report.old) (stream_of E.written E.faults report.new) (K.told key.new) }
         ensures rest { (self.new.words ≡ self.old.words) × (self.new.ticks ≡ self.old.ticks)
             × (self.new.hosts ≡ self.old.hosts) × (self.new.meter ≡ self.old.meter) }
     {
@@ -275,19 +270,17 @@ impl Turning {
         requires meter { reader_ring self.old.meter.reader ≡ ring_id ring.now }
         ensures ticked { (from : From) (live : Live) → Keeps self.old.hosts live.hosts → self.old.ticks ≡ live.ticks
             → Measures (ring_len ring.now) self.old.words.rate self.old.meter live → KeyedSince from self.old live (stream_of O.written O.faults output.old)
-            (stream_of E.written E.faults report.old) (line_told K.lines K.faults key.old)
+            (stream_of E.written E.faults report.old) (K.told key.old)
             → OnOk result (TicksAll from busy (least / 96 - live.ticks) (ring_len ring.now) self.old self.new live
             (stream_of O.written O.faults output.old) (stream_of O.written O.faults output.new)
-            (stream_of E.written E.faults report.old) (stream_of E.written E.faults report.new)
-            (line_told K.lines K.faults key.new)) }
+            (stream_of E.written E.faults report.old) (stream_of E.written E.faults report.new) (K.told key.new)) }
         ensures cut { (from : From) (live : Live) → Keeps self.old.hosts live.hosts → self.old.ticks ≡ live.ticks
             → Measures (ring_len ring.now) self.old.words.rate self.old.meter live → KeyedSince from self.old live (stream_of O.written O.faults output.old)
-            (stream_of E.written E.faults report.old) (line_told K.lines K.faults key.old)
+            (stream_of E.written E.faults report.old) (K.told key.old)
             → OnErr result ((count : ℕ) × (live.ticks + count ≤ least / 96) × Ticks from busy count (ring_len ring.now) self.old
             self.new live
             (stream_of O.written O.faults output.old) (stream_of O.written O.faults output.new)
-            (stream_of E.written E.faults report.old) (stream_of E.written E.faults report.new)
-            (line_told K.lines K.faults key.new)) }
+            (stream_of E.written E.faults report.old) (stream_of E.written E.faults report.new) (K.told key.new)) }
         ensures rest { self.new.words ≡ self.old.words }
         ensures meter { reader_ring self.new.meter.reader ≡ ring_id ring.now }
     {
@@ -312,11 +305,10 @@ impl Turning {
         requires meter { reader_ring self.old.meter.reader ≡ ring_id ring.now }
         ensures ticked { (from : From) (live : Live) → Keeps self.old.hosts live.hosts → tick ≡ live.ticks
             → Measures (ring_len ring.now) self.old.words.rate self.old.meter live → KeyedSince from self.old live (stream_of O.written O.faults output.old)
-            (stream_of E.written E.faults report.old) (line_told K.lines K.faults key.old)
+            (stream_of E.written E.faults report.old) (K.told key.old)
             → OnOk result (TicksAll from busy 1 (ring_len ring.now) self.old self.new live
             (stream_of O.written O.faults output.old) (stream_of O.written O.faults output.new)
-            (stream_of E.written E.faults report.old) (stream_of E.written E.faults report.new)
-            (line_told K.lines K.faults key.new)) }
+            (stream_of E.written E.faults report.old) (stream_of E.written E.faults report.new) (K.told key.new)) }
         ensures unwritten { OnErr result ((output.new ≡ output.old) × (report.new ≡ report.old) × (key.new ≡ key.old)
             × (self.new.failed ≡ self.old.failed) × (self.new.key ≡ self.old.key)) }
         ensures measured { OnErr result ((more : List Got) × (answers_of (ring_len ring.now) self.new.meter.reader
@@ -377,8 +369,7 @@ impl Turning {
         ensures told { (words : KeyWords) (octets : ℕ) (keyed : List KeyEvent) → self.old.words.key ≡ Some words
             → KeyStands self.old.words.key self.old.key keyed
             → DoesForKey words octets (O.written output.now) (KeyTick (has_sound samples.now)) keyed
-            (reports_in result) self.new.key
-            (line_told K.lines K.faults key.old) (line_told K.lines K.faults key.new) }
+            (reports_in result) self.new.key (K.told key.old) (K.told key.new) }
         ensures none { self.old.key ≡ None → (self.new.key ≡ None) × (key.new ≡ key.old) × (reports_in result ≡ []) }
         ensures rest { (self.new.words ≡ self.old.words) × (self.new.ticks ≡ self.old.ticks)
             × (self.new.hosts ≡ self.old.hosts) × (self.new.failed ≡ self.old.failed)
@@ -395,8 +386,7 @@ impl Turning {
         ensures told { (words : KeyWords) (octets : ℕ) (keyed : List KeyEvent) → self.old.words.key ≡ Some words
             → KeyStands self.old.words.key self.old.key keyed
             → DoesForKey words octets (O.written output.now) (KeyAfterWrite self.old.failed) keyed
-            (reports_in result) self.new.key
-            (line_told K.lines K.faults key.old) (line_told K.lines K.faults key.new) }
+            (reports_in result) self.new.key (K.told key.old) (K.told key.new) }
         ensures none { self.old.key ≡ None → (self.new.key ≡ None) × (key.new ≡ key.old) × (reports_in result ≡ []) }
         ensures rest { (self.new.words ≡ self.old.words) × (self.new.ticks ≡ self.old.ticks)
             × (self.new.hosts ≡ self.old.hosts) × (self.new.failed ≡ self.old.failed)
@@ -416,9 +406,8 @@ impl Turning {
         key: &mut K,
     )
         ensures released { (from : From) (live : Live) (report : Stream)
-            → KeyedSince from self.old live (stream_of O.written O.faults output.now) report
-            (line_told K.lines K.faults key.old)
-            → IsReleasedSince from self.old.words.key live (line_told K.lines K.faults key.new) }
+            → KeyedSince from self.old live (stream_of O.written O.faults output.now) report (K.told key.old)
+            → IsReleasedSince from self.old.words.key live (K.told key.new) }
         ensures meter { self.new.meter ≡ self.old.meter }
     {
         release_key(rt, &mut self.key, output, key);

@@ -1,6 +1,4 @@
-use Rattle.std.proofs.Common.{◌≡◌, ◌+◌, ◌-◌, [], length, set, ap, sym, ◌∙◌, arith}
-use Rattle.std.specs.Prelude.{Some}
-use Rattle.keying.specs.declared.line.End.TheVariants.{Closed}
+use Rattle.std.proofs.Common.{◌≡◌, ◌+◌, ◌-◌, length, set, ap, sym, ◌∙◌, arith}
 use Rattle.key_port.specs.KeyLines.{after_drop}
 use Rattle.key_port.proofs.LineLemmas.{with_last-at, none_last}
 use Rattle.key_port.proofs.mem_key.drop_last.Goals as goal

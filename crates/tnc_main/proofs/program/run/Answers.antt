@@ -7,7 +7,6 @@ use Rattle.tnc_main.proofs.LiveCommandLemmas.{can_run_live, no_bench, no_job, no
 use Rattle.tnc_main.proofs.LiveCommandLemmas.{only_record}
 use Rattle.tnc_main.specs.Calling.{words_of}
 use Rattle.tnc_main.proofs.CallingLemmas.{called_from}
-use Rattle.key_port.specs.KeyTasks.{LineTold}
 use Rattle.tnc_main.proofs.KeyedRuns.{keyed_from, unkeyed_from}
 use Rattle.tnc_main.proofs.LiveRuns.{rebased}
 use Rattle.tnc_main.proofs.RecordingLemmas.{recorded_from}
@@ -25,10 +24,10 @@ returns-in-Ok-clause-served g c = λ options asked.
         memory = refl;
         unread = ap (input_by g.I.Source.left g.I.Source.faults) kept.1;
         untouched =
-            ap (λ output. outside_by g.N.Ports.told g.K.KeyPort.lines g.K.KeyPort.faults
+            ap (λ output. outside_by g.N.Ports.told g.K.KeyPort.told
             g.O.Sink.written g.O.Sink.faults g.E.Sink.written g.E.Sink.faults
             c.args.live.now.ports c.args.live.now.key output c.run_batch.new.report) kept.2
-            ∙ ap (outside_by g.N.Ports.told g.K.KeyPort.lines g.K.KeyPort.faults
+            ∙ ap (outside_by g.N.Ports.told g.K.KeyPort.told
             g.O.Sink.written g.O.Sink.faults g.E.Sink.written g.E.Sink.faults
             c.args.live.now.ports c.args.live.now.key c.args.output.now) kept.3;
       }),
@@ -104,11 +103,10 @@ returns-in-Err-clause-served g c = λ options asked.
     (LiveServe options) asked in
     let kept = c.in-Err.ensures.untouched in
     rebased options c.args.live.now.seed c.run_live.result _ _ _ _ _ _ (ap (input_by g.I.Source.left g.I.Source.faults) kept.0)
-    (ap (λ output. outside_by g.N.Ports.told g.K.KeyPort.lines g.K.KeyPort.faults
+    (ap (λ output. outside_by g.N.Ports.told g.K.KeyPort.told
     g.O.Sink.written g.O.Sink.faults g.E.Sink.written g.E.Sink.faults
     c.args.live.now.ports c.args.live.now.key output c.run_batch.new.report) kept.1
-    ∙ ap (outside_by g.N.Ports.told g.K.KeyPort.lines g.K.KeyPort.faults
-    g.O.Sink.written g.O.Sink.faults g.E.Sink.written g.E.Sink.faults
+    ∙ ap (outside_by g.N.Ports.told g.K.KeyPort.told g.O.Sink.written g.O.Sink.faults g.E.Sink.written g.E.Sink.faults
     c.args.live.now.ports c.args.live.now.key c.args.output.now) kept.2)
     (c.run_live.ensures.served options same)
 
@@ -121,10 +119,10 @@ returns-in-Ok-clause-no_thread g c = λ options asked three.
         memory = refl;
         unread = ap (input_by g.I.Source.left g.I.Source.faults) kept.1;
         untouched =
-            ap (λ output. outside_by g.N.Ports.told g.K.KeyPort.lines g.K.KeyPort.faults
+            ap (λ output. outside_by g.N.Ports.told g.K.KeyPort.told
             g.O.Sink.written g.O.Sink.faults g.E.Sink.written g.E.Sink.faults
             c.args.live.now.ports c.args.live.now.key output c.run_batch.new.report) kept.2
-            ∙ ap (outside_by g.N.Ports.told g.K.KeyPort.lines g.K.KeyPort.faults
+            ∙ ap (outside_by g.N.Ports.told g.K.KeyPort.told
             g.O.Sink.written g.O.Sink.faults g.E.Sink.written g.E.Sink.faults
             c.args.live.now.ports c.args.live.now.key c.args.output.now) kept.3;
       },
@@ -136,11 +134,10 @@ returns-in-Err-clause-no_thread g c = λ options asked three.
     (LiveServe options) asked in
     let kept = c.in-Err.ensures.untouched in
     want_from options _ _ _ _ _ _ _ _ _ (ap (input_by g.I.Source.left g.I.Source.faults) kept.0)
-    (ap (λ output. outside_by g.N.Ports.told g.K.KeyPort.lines g.K.KeyPort.faults
+    (ap (λ output. outside_by g.N.Ports.told g.K.KeyPort.told
     g.O.Sink.written g.O.Sink.faults g.E.Sink.written g.E.Sink.faults
     c.args.live.now.ports c.args.live.now.key output c.run_batch.new.report) kept.1
-    ∙ ap (outside_by g.N.Ports.told g.K.KeyPort.lines g.K.KeyPort.faults
-    g.O.Sink.written g.O.Sink.faults g.E.Sink.written g.E.Sink.faults
+    ∙ ap (outside_by g.N.Ports.told g.K.KeyPort.told g.O.Sink.written g.O.Sink.faults g.E.Sink.written g.E.Sink.faults
     c.args.live.now.ports c.args.live.now.key c.args.output.now) kept.2)
     (c.run_live.ensures.want options same three)
 
@@ -256,5 +253,4 @@ returns-in-Err-clause-keyed g c = λ options ptt was out asked is lines closed o
 pub returns-in-Err-clause-unkeyed : goal.returns-in-Err-clause-unkeyed
 returns-in-Err-clause-unkeyed g c = λ options asked none.
     let ran = returns-in-Err-clause-served g c options asked in
-    let same = unkeyed_from options c.args.live.now.seed ran.0 _ _ _ _ none ran.2 in
-    (ap (λ (line : LineTold). line.lines) same, ap (λ (line : LineTold). line.faults) same)
+    unkeyed_from options c.args.live.now.seed ran.0 _ _ _ _ none ran.2

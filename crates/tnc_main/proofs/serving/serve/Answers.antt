@@ -11,7 +11,7 @@ returns-clause-served g c = (
   c.code.ensures,
   record {
     end = c.serve-end.result;
-    between = outside_by g.N.Ports.told g.K.KeyPort.lines g.K.KeyPort.faults
+    between = outside_by g.N.Ports.told g.K.KeyPort.told
         g.O.Sink.written g.O.Sink.faults g.E.Sink.written g.E.Sink.faults
         c.serve-end.new.live.ports c.serve-end.new.live.key c.serve-end.new.output c.serve-end.new.report;
     served = c.serve-end.ensures.served;
@@ -33,7 +33,7 @@ returns-clause-write_fault g c = run.write_fault c.args.words c.code.result _ _ 
 
 pub returns-clause-want : goal.returns-clause-want
 returns-clause-want g c = λ three.
-    let between = outside_by g.N.Ports.told g.K.KeyPort.lines g.K.KeyPort.faults
+    let between = outside_by g.N.Ports.told g.K.KeyPort.told
     g.O.Sink.written g.O.Sink.faults g.E.Sink.written g.E.Sink.faults
     c.serve-end.new.live.ports c.serve-end.new.live.key c.serve-end.new.output c.serve-end.new.report in
     in_want c.args.words _ _ _ between _ c.tell_end.result _ _ c.serve-end.result

@@ -1,4 +1,4 @@
-use Rattle.key_port.specs.KeyTasks.{LineTold, line_told}
+use Rattle.key_port.specs.KeyLines.{LineTold}
 use Rattle.tnc_ports.proofs.Common.{refl, false, [], ap, subst, sym, ◌∙◌, IsLooped, Outside, from_of, new_live, reader_ring}
 use Rattle.tnc_ports.proofs.Common.{ring_len}
 use Rattle.tnc_ports.specs.declared.meter.Meter.{Meter}
@@ -13,9 +13,8 @@ use Rattle.tnc_ports.proofs.looping.station_loop.Goals as goal
 pub returns-in_default-clause-looped : goal.returns-in_default-clause-looped
 returns-in_default-clause-looped g c =
     let words = c.args.words.now in
-    let line : LineTold = line_told g.K.KeyPort.lines g.K.KeyPort.faults c.release_key.new.key in
-    let start : Outside = outside_by g.N.Ports.told g.K.KeyPort.lines g.K.KeyPort.faults
-    g.O.Sink.written g.O.Sink.faults g.E.Sink.written
+    let line : LineTold = g.K.KeyPort.told c.release_key.new.key in
+    let start : Outside = outside_by g.N.Ports.told g.K.KeyPort.told g.O.Sink.written g.O.Sink.faults g.E.Sink.written
     g.E.Sink.faults c.args.ports.now c.args.key.now c.args.output.now c.args.report.now in
     nothing_looped words _ start line (fresh_answers c.args.ring.now (ring_len c.args.ring.now) c.args.receiver.now c.args.sound.now _
     c.requires.fresh.new c.requires.sound)
@@ -52,11 +51,9 @@ returns-clause-looped g c =
     let words = c.args.words.now in
     subst (λ (meter : Meter). IsLooped words c.run-end.result
     (answers_with (ring_len c.args.ring.now) c.run-end.new.receiver meter.reader)
-    (outside_by g.N.Ports.told
-    g.K.KeyPort.lines g.K.KeyPort.faults g.O.Sink.written g.O.Sink.faults g.E.Sink.written g.E.Sink.faults
+    (outside_by g.N.Ports.told g.K.KeyPort.told g.O.Sink.written g.O.Sink.faults g.E.Sink.written g.E.Sink.faults
     c.args.ports.now c.args.key.now c.args.output.now c.args.report.now)
-    (outside_by g.N.Ports.told
-    g.K.KeyPort.lines g.K.KeyPort.faults g.O.Sink.written g.O.Sink.faults g.E.Sink.written g.E.Sink.faults
+    (outside_by g.N.Ports.told g.K.KeyPort.told g.O.Sink.written g.O.Sink.faults g.E.Sink.written g.E.Sink.faults
     c.run-end.new.ports c.release.new.key c.run-end.new.output c.run-end.new.report)) (sym c.release.ensures.meter)
     (looped _ _ _ words c.run-end.new.turning (λ live key. c.release.ensures.released _ live _ key) c.run-end.result _
     c.run-end.ensures.run)

@@ -1,15 +1,13 @@
 use Rattle.std.proofs.Common.{◌≡◌, [], ◌∷◌, sym, ◌∙◌}
 use Rattle.key_port.specs.declared.key_records.KeyWrite.TheVariants.{Whole, NotYet, Failed as NotWhole}
 use Rattle.key_port.specs.KeyEvents.KeyEvent.{NotWritten}
-use Rattle.key_port.specs.KeyTasks.{line_told}
 use Rattle.key_port.proofs.Tasks.{try_written, try_early, unopened, after_unopened}
 use Rattle.key_port.proofs.key_side.KeySide.open.Goals as goal
 
 pub returns-in-Whole-clause-does : goal.returns-in-Whole-clause-does
 returns-in-Whole-clause-does g c = λ words octets events tasks doing.
     try_written words _ octets _ tasks events c.args.self.now.machine c.tried.new.self c.tried.result
-    (line_told g.K.KeyPort.lines g.K.KeyPort.faults c.args.key.now)
-    (line_told g.K.KeyPort.lines g.K.KeyPort.faults c.open.new.self) doing
+    (g.K.KeyPort.told c.args.key.now) (g.K.KeyPort.told c.open.new.self) doing
     (c.tried.ensures.stands_for words _ doing.stands) (c.tried.ensures.told words _ doing.stands)
     (λ had is. c.open.ensures.told had is c.in-Whole.is)
     (c.open.ensures.faultless (λ e. let both : Whole ≡ NotWhole = sym c.in-Whole.is ∙ e in cc both))
@@ -17,8 +15,7 @@ returns-in-Whole-clause-does g c = λ words octets events tasks doing.
 pub returns-in-NotYet-clause-does : goal.returns-in-NotYet-clause-does
 returns-in-NotYet-clause-does g c = λ words octets events tasks doing.
     try_early words _ octets _ tasks events c.args.self.now.machine c.tried-in-NotYet.new.self c.tried-in-NotYet.result
-    (line_told g.K.KeyPort.lines g.K.KeyPort.faults c.args.key.now)
-    (line_told g.K.KeyPort.lines g.K.KeyPort.faults c.open.new.self) doing
+    (g.K.KeyPort.told c.args.key.now) (g.K.KeyPort.told c.open.new.self) doing
     (c.tried-in-NotYet.ensures.stands_for words _ doing.stands) (c.tried-in-NotYet.ensures.told words _ doing.stands)
     (c.open.ensures.unwritten (λ e. let both : NotYet ≡ Whole = sym c.in-NotYet.is ∙ e in cc both))
     (c.open.ensures.faultless (λ e. let both : NotYet ≡ NotWhole = sym c.in-NotYet.is ∙ e in cc both))
@@ -26,9 +23,7 @@ returns-in-NotYet-clause-does g c = λ words octets events tasks doing.
 pub returns-in-Failed-clause-does : goal.returns-in-Failed-clause-does
 returns-in-Failed-clause-does g c = λ words octets events tasks doing.
     after_unopened words _ octets _ events _ c.refuse.new.self.machine
-    (line_told g.K.KeyPort.lines g.K.KeyPort.faults c.args.key.now)
-    (line_told g.K.KeyPort.lines g.K.KeyPort.faults c.open.new.self)
-    (line_told g.K.KeyPort.lines g.K.KeyPort.faults c.refuse.new.key)
+    (g.K.KeyPort.told c.args.key.now) (g.K.KeyPort.told c.open.new.self) (g.K.KeyPort.told c.refuse.new.key)
     (c.open.ensures.unwritten (λ e. let both : NotWhole ≡ Whole = sym c.in-Failed.is ∙ e in cc both))
     (c.open.ensures.failed c.in-Failed.is)
     (c.refuse.ensures.does words octets _ (NotWritten ∷ events) []

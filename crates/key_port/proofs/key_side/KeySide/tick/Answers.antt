@@ -1,4 +1,3 @@
-use Rattle.key_port.specs.KeyTasks.{line_told}
 use Rattle.key_port.proofs.Sides.{tick_done}
 use Rattle.key_port.proofs.key_side.KeySide.tick.Goals as goal
 
@@ -6,8 +5,7 @@ pub returns-clause-ticked : goal.returns-clause-ticked
 returns-clause-ticked g c = λ words octets keyed done.
     tick_done words c.args.self.now.port octets _ c.args.sounds keyed c.args.self.now.machine c.tick-act.new.self
     c.tick-act.result _ c.write_if-lost.result c.write_if-lost.new.self
-    (line_told g.K.KeyPort.lines g.K.KeyPort.faults c.args.key.now)
-    (line_told g.K.KeyPort.lines g.K.KeyPort.faults c.write_if-lost.new.key) done
+    (g.K.KeyPort.told c.args.key.now) (g.K.KeyPort.told c.write_if-lost.new.key) done
     (c.tick-act.ensures.stands_for words _ done.stands) (c.tick-act.ensures.act words _ done.stands)
     (λ events doing. c.write_if-lost.ensures.does words octets events doing) c.write_if-lost.ensures.port
     c.reports_of_tick.ensures

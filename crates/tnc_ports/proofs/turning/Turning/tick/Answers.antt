@@ -1,5 +1,4 @@
 use Rattle.key_port.specs.KeySides.{reports_in}
-use Rattle.key_port.specs.KeyTasks.{line_told}
 use Rattle.tnc_ports.proofs.Common.{◌++◌, ap, refl, sym, subst, ◌∙◌, ◌+◌, StandsFor, report_text}
 use Rattle.tnc_ports.proofs.Common.{Bool, Puts, key_line, map, output_octets, ring_len, stream_of}
 use Rattle.sound_rate.specs.declared.outgoing.Outgoing.{Outgoing}
@@ -56,12 +55,12 @@ returns-clause-ticked g c = λ from live keeps at measures key.
     (sym (ap (λ (m : Meter). m.out) c.key_written-lost.ensures.rest.4)) gone.0)
     c.key_tick-keyed.ensures.told
     (λ none. let still = c.key_tick-keyed.ensures.none none in
-    (still.0, ap (line_told g.K.KeyPort.lines g.K.KeyPort.faults) still.1, still.2))
+    (still.0, ap g.K.KeyPort.told still.1, still.2))
     (λ words octets keyed is stands. c.key_written-lost.ensures.told words octets keyed
     (ap (λ w. w.key) c.key_tick-keyed.ensures.rest.0 ∙ is)
     (subst (λ w. KeyStands w.key c.key_tick-keyed.new.self.key keyed) (sym c.key_tick-keyed.ensures.rest.0) stands))
     (λ none. let still = c.key_written-lost.ensures.none none in
-    (still.0, ap (line_told g.K.KeyPort.lines g.K.KeyPort.faults) still.1, still.2))
+    (still.0, ap g.K.KeyPort.told still.1, still.2))
     out c.put.ensures c.put_reports.ensures last
     (c.deref-4.ensures.value ∙ c.in_ok-told.ensures) c.put-2.ensures
     (λ hosts printed stands.

@@ -1,4 +1,3 @@
-use Rattle.key_port.specs.KeyTasks.{line_told}
 use Rattle.tnc_ports.proofs.Common.{◌-◌, ◌/◌, refl, ap, ◌∙◌, arith, ring_len, stream_of}
 use Rattle.std.proofs.Common.{suc}
 use Rattle.host_ports.proofs.ResultLemmas.{on_err}
@@ -40,7 +39,7 @@ returns-in_err-tick-clause-cut g c = λ from live keeps at measures key.
       ticks_some from c.args.busy h.0 (ring_len c.args.ring.now) c.args.self.now c.loop-tick.self c.tick.new.self live _ _ _ _ _ _ _ _ h.3
           (ap (stream_of g.O.Sink.written g.O.Sink.faults) c.in_err-tick.ensures.unwritten.0)
           (ap (stream_of g.E.Sink.written g.E.Sink.faults) c.in_err-tick.ensures.unwritten.1)
-          (ap (line_told g.K.KeyPort.lines g.K.KeyPort.faults) c.in_err-tick.ensures.unwritten.2)
+          (ap g.K.KeyPort.told c.in_err-tick.ensures.unwritten.2)
           c.in_err-tick.ensures.unwritten.3 c.in_err-tick.ensures.rest c.in_err-tick.ensures.unwritten.4
           c.in_err-tick.ensures.measured,
     )

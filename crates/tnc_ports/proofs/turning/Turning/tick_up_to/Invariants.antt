@@ -1,5 +1,4 @@
 -- The ticks so far.
-use Rattle.key_port.specs.KeyTasks.{line_told}
 use Rattle.tnc_ports.proofs.Common.{◌≡◌, ℕ, ◌+◌, ◌<◌, ◌≤◌, From, KeyedSince, Live, Keeps, TicksAll, stream_of}
 use Rattle.tnc_ports.proofs.Common.{reader_ring, ring_id, ring_len}
 use Rattle.tnc_ports.specs.HeldMeter.{Measures}
@@ -10,11 +9,11 @@ invariant-loop-tick g l =
     ((from : From) (live : Live) → Keeps l.initial.self.hosts live.hosts → l.initial.self.ticks ≡ live.ticks
     → Measures (ring_len l.ring) l.initial.self.words.rate l.initial.self.meter live → KeyedSince from l.initial.self live (stream_of g.O.Sink.written g.O.Sink.faults l.initial.output)
     (stream_of g.E.Sink.written g.E.Sink.faults l.initial.report)
-    (line_told g.K.KeyPort.lines g.K.KeyPort.faults l.initial.key)
+    (g.K.KeyPort.told l.initial.key)
     → (count : ℕ) × (l.tick ≡ live.ticks + count) × (0 < count → l.tick ≤ l.tick-end)
     × TicksAll from l.busy count (ring_len l.ring) l.initial.self l.self live
     (stream_of g.O.Sink.written g.O.Sink.faults l.initial.output) (stream_of g.O.Sink.written g.O.Sink.faults l.output)
     (stream_of g.E.Sink.written g.E.Sink.faults l.initial.report) (stream_of g.E.Sink.written g.E.Sink.faults l.report)
-    (line_told g.K.KeyPort.lines g.K.KeyPort.faults l.key))
+    (g.K.KeyPort.told l.key))
     × (l.self.words ≡ l.initial.self.words)
     × (reader_ring l.self.meter.reader ≡ ring_id l.ring)
