@@ -2,6 +2,16 @@
 use Rattle.std.specs.Prelude.{◌≡◌, ℕ, ◌<◌, ◌≤◌, List, [], ◌++◌, length, take, drop, Some}
 use Rattle.std.specs.declared.option.Option.{Option}
 
+-- What a source tells: the octets that reads will give from here on, if it tells them, and how often a read has failed.
+pub record SourceTold : Type 0 where
+  pub left : Option (List ℕ)
+  pub faults : ℕ
+
+-- What a sink tells: the octets that were written, if it tells them, and how often a write has failed.
+pub record SinkTold : Type 0 where
+  pub written : Option (List ℕ)
+  pub faults : ℕ
+
 -- A read answered count: so many octets moved from the front of the octets to the front of the buffer.
 pub record Gives (octets : List ℕ) (left : Option (List ℕ)) (buffer : List ℕ) (count : ℕ) : Type 0 where
   pub enough : count ≤ length octets

@@ -55,9 +55,7 @@ impl MemSource {
 }
 
 impl Source for MemSource {
-    ghost left = { λ s. Some s.left };
-
-    ghost faults = { λ s. s.faults };
+    ghost told = { λ s. record { left = Some s.left; faults = s.faults } };
 
     fn read(&mut self, buffer: &mut [u8]) -> Result<usize, Failed>
         ensures fails { IsErr result ↔ Contains self.old.failing self.old.calls }
@@ -139,9 +137,7 @@ impl MemSink {
 }
 
 impl Sink for MemSink {
-    ghost written = { λ s. Some s.written };
-
-    ghost faults = { λ s. s.faults };
+    ghost told = { λ s. record { written = Some s.written; faults = s.faults } };
 
     fn write(&mut self, octets: &[u8]) -> Result<(), Failed>
         ensures fails { IsErr result ↔ (Contains self.old.failing self.old.calls

@@ -15,16 +15,14 @@ pub struct RealSource<R: Read> {
 impl<R: Read> RealSource<R> {
     /// A source that has not failed yet.
     pub fn new(reader: R) -> RealSource<R>
-        ensures { ⟦<RealSource<R> as Source>⟧.faults result ≡ 0 }
+        ensures { (⟦<RealSource<R> as Source>⟧.told result).faults ≡ 0 }
     {
         RealSource { reader, faults: 0 }
     }
 }
 
 impl<R: Read> Source for RealSource<R> {
-    ghost left = { λ _. None };
-
-    ghost faults = { λ s. s.faults };
+    ghost told = { λ s. record { left = None; faults = s.faults } };
 
     fn read(&mut self, buffer: &mut [u8]) -> Result<usize, Failed> {
         match self.reader.read(buffer) {
@@ -47,16 +45,14 @@ pub struct RealSink<W: Write> {
 impl<W: Write> RealSink<W> {
     /// A sink that has not failed yet.
     pub fn new(writer: W) -> RealSink<W>
-        ensures { ⟦<RealSink<W> as Sink>⟧.faults result ≡ 0 }
+        ensures { (⟦<RealSink<W> as Sink>⟧.told result).faults ≡ 0 }
     {
         RealSink { writer, faults: 0 }
     }
 }
 
 impl<W: Write> Sink for RealSink<W> {
-    ghost written = { λ _. None };
-
-    ghost faults = { λ s. s.faults };
+    ghost told = { λ s. record { written = None; faults = s.faults } };
 
     /// A writer that takes nothing of a nonempty piece has failed.
     fn write(&mut self, octets: &[u8]) -> Result<(), Failed> {
