@@ -1,0 +1,4 @@
+pub mod AddingLemmas
+pub mod MarkLemmas
+pub mod MergedLemmas
+pub mod ReceiverLemmas
