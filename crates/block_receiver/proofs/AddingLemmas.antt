@@ -5,7 +5,7 @@ use Rattle.std.specs.List.{AllPairs}
 use Rattle.std.proofs.lemmas.List.Sums.{fold-append}
 use Rattle.frame_merge.specs.declared.candidate.Candidate.{Candidate}
 use Rattle.frame_merge.specs.Order.{in_order, place, standing}
-use Rattle.slicer_bank.proofs.MergingLemmas.{in_order-strictly}
+use Rattle.block_receiver.proofs.PuttingLemmas.{in_order-strictly}
 
 -- put among others, candidates stand where they would among these in order
 pub put_among : (puts found : List Candidate)

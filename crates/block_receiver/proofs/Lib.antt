@@ -1,3 +1,5 @@
+pub mod PuttingLemmas
+pub mod PartLemmas
 pub mod AddingLemmas
 pub mod MarkLemmas
 pub mod MergedLemmas

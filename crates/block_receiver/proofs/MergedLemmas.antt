@@ -10,17 +10,9 @@ use Rattle.frame_merge.specs.Merged.{merged, below, not_below, between}
 use Rattle.frame_merge.proofs.Ordering.{rising_ends}
 use Rattle.frame_merge.proofs.Merging.{merged-rising, below_between, between_all, All-merged}
 use Rattle.frame_merge.proofs.Taking.{below_all}
-use Rattle.slicer_bank.proofs.MergedLemmas.{next_is, between_between}
+use Rattle.block_receiver.proofs.PartLemmas.{next_is, not_below_none, between_between}
 use Rattle.block_receiver.specs.Hearing.{Hearing, IsHearing}
 use Rattle.block_receiver.specs.MergedItems.{AreMerged, AreMergedBetween}
-
--- past the last end nothing is kept
-not_below_none : (position : ℕ) (xs : List Candidate) → All (λ y. y.end < position) xs → not_below position xs ≡ []
-not_below_none position [] h = refl
-not_below_none position (x ∷ xs) h =
-    ap (λ t. cond t (x ∷ not_below position xs) (not_below position xs))
-    (lt-leb position x.end (All-head (λ y. y.end < position) x xs h))
-    ∙ not_below_none position xs (All-tail (λ y. y.end < position) x xs h)
 
 module _ {Lanes : Type 0} (hearing : Hearing Lanes) (laws : IsHearing hearing) where
   -- the merged candidates of samples do not fall in their ends

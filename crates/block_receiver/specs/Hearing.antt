@@ -1,5 +1,5 @@
 -- What lanes hear of samples, and how soon it is settled: a candidate to come can change it no more.
-use Rattle.std.specs.Prelude.{◌≡◌, ℕ, ◌+◌, ◌-◌, ◌<◌, ◌≤◌, ◌^◌, ℤ, List, [], ◌++◌, length}
+use Rattle.std.specs.Prelude.{◌≡◌, ℕ, ◌+◌, ◌-◌, ◌<◌, ◌≤◌, ◌^◌, ℤ, List, [], ◌++◌, length, slice_index}
 use Rattle.std.specs.List.{All}
 use Rattle.frame_merge.specs.declared.candidate.Candidate.{Candidate}
 use Rattle.frame_merge.specs.Merged.{merged, below}
@@ -39,6 +39,11 @@ pub record IsHearing {Lanes : Type 0} (hearing : Hearing Lanes) : Type 0 where
 abbrev pub Adds : (List ℤ → List Candidate → Type 0) → List ℤ → List ℤ → List Candidate → Type 0
 Adds Heard x more found = (puts : List Candidate) → Heard x (in_order puts) → Heard more (in_order (puts ++ found))
 
+-- whatever samples the lanes had taken, they have taken the block after them, and these are the candidates that it adds
+abbrev pub HearsBlock : {Lanes : Type 0} → Hearing Lanes → Lanes → Lanes → List ℤ → List Candidate → Type 0
+HearsBlock hearing old new block found = (x : List ℤ) → hearing.HaveTaken old x
+    → hearing.HaveTaken new (x ++ block) × Adds hearing.Heard x (x ++ block) found
+
 -- what may be put into a merger of so many lanes
 pub record CanBePut (lanes : ℕ) (item : Candidate) : Type 0 where
   pub lane : item.offset < lanes
@@ -48,3 +53,7 @@ pub record CanBePut (lanes : ℕ) (item : Candidate) : Type 0 where
 pub record CanBePutFrom (lanes low : ℕ) (item : Candidate) : Type 0 where
   pub can : CanBePut lanes item
   pub from : low ≤ item.end
+
+-- no candidate ends below the mark of its lane
+abbrev pub AreInTime : List ℕ → List Candidate → Type 0
+AreInTime marks items = All (λ item. slice_index marks item.offset ≤ item.end) items

@@ -4,7 +4,7 @@ use Rattle.frame_merge.specs.declared.candidate.Candidate.{Candidate}
 use Rattle.frame_merge.specs.Held.{Held as HeldMerger, StandsFor as MergerStandsFor}
 use Rattle.frame_merge.specs.Merged.{merged, below, not_below}
 use Rattle.frame_merge.specs.Order.{in_order}
-use Rattle.slicer_bank.specs.declared.progress.Progress.{Progress}
+use Rattle.block_receiver.specs.declared.progress.Progress.{Progress}
 use Rattle.block_receiver.specs.Hearing.{Hearing}
 
 pub record Held (Lanes : Type 0) : Type 0 where

@@ -1,14 +1,14 @@
-//! What hears frames in samples: lanes of any kind.
+//! What hears frames in samples: lanes of any kind, and ways to have them hear a block.
 
-ghost use Rattle.std.specs.Prelude.{◌≡◌, ℕ, ◌+◌, ◌<◌, ◌≤◌, ◌^◌, ℤ, List, [], ◌++◌, length, IfOk, OnOk};
+ghost use Rattle.std.specs.Prelude.{◌≡◌, ℕ, ◌+◌, ◌<◌, ◌≤◌, ◌^◌, ℤ, List, [], ◌++◌, length, IfOk, OnOk, ⊤};
 ghost use Rattle.std.specs.List.{All};
-ghost use Rattle.block_receiver.specs.Hearing.{Hearing, IsHearing, Adds, CanBePutFrom};
+ghost use Rattle.block_receiver.specs.Hearing.{Hearing, IsHearing, HearsBlock, CanBePutFrom};
 
 use frame_merge::Candidate;
 use std::alloc::Global;
 use tnc_base::OutOfMemory;
 
-/// Lanes that a [`Receiver`](crate::Receiver) gives blocks of samples: `start`, and then `feed` for each block. After
+/// Lanes that a [`Receiver`](crate::Receiver) gives blocks of samples: `start`, and then `hear` for each block. After
 /// want of memory they are of no more use.
 pub trait Lanes: Drop {
     /// What the lanes hear, and how soon it is settled.
@@ -32,7 +32,7 @@ pub trait Lanes: Drop {
         ensures taken { IfOk result (λ lanes. hearing.HaveTaken lanes []) };
 
     /// Takes a block of samples after so many, and gives the candidates that it adds, in any order.
-    fn feed(
+    fn hear(
         &mut self,
         alloc: Global,
         position: u64,
@@ -41,8 +41,47 @@ pub trait Lanes: Drop {
         requires at { hearing.IsAt self.old position }
         requires room { position + length block.now < 2 ^ 48 }
         ensures at { OnOk result (hearing.IsAt self.new (position + length block.now)) }
-        ensures heard { IfOk result (λ found. (x : List ℤ) → hearing.HaveTaken self.old x
-            → hearing.HaveTaken self.new (x ++ block.now) × Adds hearing.Heard x (x ++ block.now) found.items) }
+        ensures heard { IfOk result (λ found. HearsBlock hearing self.old self.new block.now found.items) }
         ensures bounds { IfOk result (λ found. All (CanBePutFrom hearing.lanes (hearing.settled position))
             found.items) };
+}
+
+/// A way to have lanes hear a block, as on threads.
+pub trait Hearer<L: Lanes> {
+    /// What it asks for.
+    ghost can_hear: { Self → Type 0 };
+
+    /// Does what [`Lanes::hear`] does.
+    fn hear(
+        &self,
+        lanes: &mut L,
+        alloc: Global,
+        position: u64,
+        block: &[i16],
+    ) -> Result<Vec<Candidate>, OutOfMemory>
+        requires can { can_hear self.now }
+        requires at { L.hearing.IsAt lanes.old position }
+        requires room { position + length block.now < 2 ^ 48 }
+        ensures at { OnOk result (L.hearing.IsAt lanes.new (position + length block.now)) }
+        ensures heard { IfOk result (λ found. HearsBlock L.hearing lanes.old lanes.new block.now found.items) }
+        ensures bounds { IfOk result (λ found. All (CanBePutFrom L.hearing.lanes (L.hearing.settled position))
+            found.items) };
+}
+
+/// The lanes hear a block one after another.
+#[derive(Clone, Copy, Debug, PartialEq, Eq)]
+pub struct InTurn;
+
+impl<L: Lanes> Hearer<L> for InTurn {
+    ghost can_hear = { λ _. ⊤ };
+
+    fn hear(
+        &self,
+        lanes: &mut L,
+        alloc: Global,
+        position: u64,
+        block: &[i16],
+    ) -> Result<Vec<Candidate>, OutOfMemory> {
+        lanes.hear(alloc, position, block)
+    }
 }

@@ -9,7 +9,9 @@
 
 mod lanes;
 mod merging;
+mod progress;
 mod receiver;
 
-pub use lanes::Lanes;
+pub use lanes::{Hearer, InTurn, Lanes};
+pub use progress::Progress;
 pub use receiver::Receiver;

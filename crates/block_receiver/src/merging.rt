@@ -6,8 +6,7 @@ ghost use Rattle.frame_merge.specs.declared.candidate.Candidate.{Candidate};
 ghost use Rattle.frame_merge.specs.Held.{StandsFor};
 ghost use Rattle.frame_merge.specs.Merged.{merged, below, not_below};
 ghost use Rattle.frame_merge.specs.Order.{in_order};
-ghost use Rattle.slicer_bank.specs.Merging.{AreInTime};
-ghost use Rattle.block_receiver.specs.Hearing.{CanBePut, CanBePutFrom};
+ghost use Rattle.block_receiver.specs.Hearing.{AreInTime, CanBePut, CanBePutFrom};
 
 use frame_merge::{Candidate, Merger};
 use tnc_base::OutOfMemory;

@@ -1,14 +1,14 @@
 //! The receiver: samples in blocks in, each frame that is heard in them once and in order out.
 
 ghost use Rattle.std.specs.Prelude.{◌≡◌, ◌+◌, ◌<◌, ◌≤◌, ◌^◌, ℤ, List, [], ◌++◌, length, replicate, false, IfOk, OnOk};
-ghost use Rattle.slicer_bank.specs.Progress.{Finishes, TakesBlock};
+ghost use Rattle.block_receiver.specs.Progress.{Finishes, TakesBlock};
 ghost use Rattle.block_receiver.specs.HeldReceiver.{StandsFor, progress};
 ghost use Rattle.block_receiver.specs.MergedItems.{AreMergedBetween};
 
-use crate::lanes::Lanes;
+use crate::lanes::{Hearer, InTurn, Lanes};
 use crate::merging::merge_found;
+use crate::progress::Progress;
 use frame_merge::{Candidate, Merger};
-use slicer_bank::Progress;
 use std::alloc::Global;
 use std::marker::Model;
 use tnc_base::OutOfMemory;
@@ -69,10 +69,28 @@ impl<L: Lanes> Receiver<L> {
             (L.hearing.settled (length (x ++ block.now))) (x ++ block.now) items.items) }
         ensures progress { TakesBlock (progress self.old) (progress self.new) (length block.now) result }
     {
+        self.block_by(&InTurn, block)
+    }
+
+    /// Does what [`Receiver::block`] does, with the lanes as `hearer` has them.
+    pub fn block_by<H: Hearer<L>>(
+        &mut self,
+        hearer: &H,
+        block: &[i16],
+    ) -> Result<Vec<Candidate>, OutOfMemory>
+        requires can { H.can_hear hearer.now }
+        requires room { self.old.position + length block.now < 2 ^ 48 }
+        requires unfinished { self.old.finished ≡ false }
+        ensures given { IfOk result (λ items. (x : List ℤ) → StandsFor L.hearing self.old x
+            → StandsFor L.hearing self.new (x ++ block.now)
+            × AreMergedBetween L.hearing.Heard (L.hearing.settled (length x))
+            (L.hearing.settled (length (x ++ block.now))) (x ++ block.now) items.items) }
+        ensures progress { TakesBlock (progress self.old) (progress self.new) (length block.now) result }
+    {
         L::laws();
         self.progress.begin()?;
         let position = self.progress.position;
-        let found = self.lanes.feed(self.alloc, position, block)?;
+        let found = hearer.hear(&mut self.lanes, self.alloc, position, block)?;
         let mark = L::settled(position + block.len() as u64);
         let items = merge_found(&mut self.merger, found, mark)?;
         self.progress.take(block.len());

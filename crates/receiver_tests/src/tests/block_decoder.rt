@@ -8,7 +8,7 @@ use frame_merge::Candidate;
 use hf_modem::HfDecoder;
 use hf_sensitive::HfSensitiveDecoder;
 use sensitive_receiver::SensitiveDecoder;
-use slicer_bank::Decoder;
+use slicer_bank::{Decoder, OnThreads};
 use std::alloc::Global;
 use std::thread::Threads;
 use tnc_base::OutOfMemory;
@@ -75,7 +75,7 @@ impl BlockDecoder for Decoder {
         block: &[i16],
         gate: &Meeting,
     ) -> Result<Vec<Candidate>, OutOfMemory> {
-        Decoder::block_threads(self, rt, block, gate)
+        Decoder::block_by(self, &OnThreads { rt, gate }, block)
     }
 
     fn end(&mut self) -> Result<Vec<Candidate>, OutOfMemory> {

@@ -1,6 +1,6 @@
 use Rattle.std.proofs.Common.{subst, ◌++◌}
 use Rattle.frame_merge.specs.Held.{StandsFor}
-use Rattle.slicer_bank.proofs.MergingLemmas.{has_put_more, has_put_all}
+use Rattle.block_receiver.proofs.PuttingLemmas.{has_put_more, has_put_all}
 use Rattle.block_receiver.proofs.merging.put_all.Goals as goal
 
 pub loop-item-preserved : goal.loop-item-preserved

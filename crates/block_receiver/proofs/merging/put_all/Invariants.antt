@@ -1,4 +1,4 @@
-use Rattle.slicer_bank.proofs.MergingLemmas.{HasPut}
+use Rattle.block_receiver.proofs.PuttingLemmas.{HasPut}
 use Rattle.block_receiver.proofs.merging.put_all.Given as goal
 
 abbrev pub invariant-loop-item : goal.invariant-loop-item

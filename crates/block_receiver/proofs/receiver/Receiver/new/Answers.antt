@@ -1,5 +1,5 @@
 use Rattle.std.proofs.Common.{◌≡◌, ap, sym, subst, replicate, ◌∙◌}
-use Rattle.slicer_bank.specs.declared.progress.Progress.{Progress}
+use Rattle.block_receiver.specs.declared.progress.Progress.{Progress}
 use Rattle.block_receiver.proofs.ReceiverLemmas.{merged_none}
 use Rattle.block_receiver.proofs.receiver.Receiver.new.Goals as goal
 

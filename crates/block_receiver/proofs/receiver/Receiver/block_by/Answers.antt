@@ -2,14 +2,14 @@ use Rattle.std.proofs.Common.{◌≡◌, ◌+◌, ◌∙◌, ℤ, List, ◌++◌
 use Rattle.block_receiver.specs.HeldReceiver.{Held, StandsFor}
 use Rattle.block_receiver.specs.MergedItems.{AreMergedBetween}
 use Rattle.block_receiver.proofs.ReceiverLemmas.{merged_more}
-use Rattle.block_receiver.proofs.receiver.Receiver.block.Goals as goal
+use Rattle.block_receiver.proofs.receiver.Receiver.block_by.Goals as goal
 
 pub returns-clause-given : goal.returns-clause-given
 returns-clause-given g c =
     let hearing = g.L.Lanes.hearing in
     let block : List ℤ = c.args.block.now in
     let now : Held g.row.L.Denot = record {
-      lanes = c.feed.new.self;
+      lanes = c.hear.new.lanes;
       merger = c.merge_found.new.merger;
       position = c.take.new.self.position;
       finished = c.take.new.self.finished;

@@ -5,7 +5,7 @@ ghost use Rattle.frame_merge.specs.declared.candidate.Candidate.{Candidate};
 ghost use Rattle.frame_merge.specs.Held.{StandsFor as MergerStandsFor};
 ghost use Rattle.frame_merge.specs.Merged.{merged, not_below};
 ghost use Rattle.frame_merge.specs.Order.{in_order};
-ghost use Rattle.slicer_bank.specs.Progress.{Finishes};
+ghost use Rattle.block_receiver.specs.Progress.{Finishes};
 
 use frame_merge::{Candidate, Merger};
 use std::alloc::Global;

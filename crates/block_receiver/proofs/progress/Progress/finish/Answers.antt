@@ -1,5 +1,7 @@
-use Rattle.slicer_bank.proofs.Common.{◌∙◌, ◌-◌, ap, not_below, in_order}
-use Rattle.slicer_bank.proofs.progress.Progress.finish.Goals as goal
+use Rattle.std.proofs.Common.{◌∙◌, ◌-◌, ap}
+use Rattle.frame_merge.specs.Merged.{not_below}
+use Rattle.frame_merge.specs.Order.{in_order}
+use Rattle.block_receiver.proofs.progress.Progress.finish.Goals as goal
 
 pub returns-clause-rest : goal.returns-clause-rest
 returns-clause-rest c = λ unfinished puts given h.
