@@ -69,7 +69,7 @@ pub trait Hearer<L: Lanes> {
 }
 
 /// The lanes hear a block one after another.
-#[derive(Clone, Copy, Debug, PartialEq, Eq)]
+#[derive(Clone, Copy)]
 pub struct InTurn;
 
 impl<L: Lanes> Hearer<L> for InTurn {

@@ -8,8 +8,8 @@ use Rattle.std.proofs.lemmas.Bool.{ltb-true, lt-ltb}
 use Rattle.std.proofs.lemmas.List.Elements.{All-weaker, All-filter, filter_passes}
 use Rattle.std.proofs.lemmas.List.Kept.{AllPairs-filter}
 use Rattle.frame_merge.specs.Order.{IsInOrder}
-use Rattle.slicer_bank.proofs.MergingLemmas.{rising_strictly}
-use Rattle.slicer_bank.proofs.MergedLemmas.{below_more, contains_passing}
+use Rattle.block_receiver.proofs.PuttingLemmas.{rising_strictly}
+use Rattle.block_receiver.proofs.PartLemmas.{below_more, contains_passing}
 use Rattle.block_receiver.specs.Hearing.{IsHearing, Adds}
 use Rattle.block_receiver.proofs.AddingLemmas.{put_after}
 use Rattle.hf_modem.specs.Hearing.{hf_hearing}

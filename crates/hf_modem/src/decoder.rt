@@ -33,7 +33,7 @@ impl Lanes for HfBank {
         HfBank::new(alloc, 1)
     }
 
-    fn feed(
+    fn hear(
         &mut self,
         alloc: Global,
         _position: u64,

@@ -1,5 +1,5 @@
 use Rattle.hf_modem.proofs.MergedLemmas.{adds}
-use Rattle.hf_modem.proofs.decoder.HfBankLanes.feed.Goals as goal
+use Rattle.hf_modem.proofs.decoder.HfBankLanes.hear.Goals as goal
 
 pub returns-clause-heard : goal.returns-clause-heard
 returns-clause-heard c = λ x h.
