@@ -4,7 +4,7 @@ ghost use Rattle.std.specs.Thread.{IsSync};
 ghost use Rattle.slicer_bank.specs.Hearing.{hearing_of_eight};
 
 use crate::bank::Bank;
-use crate::gate::Gate;
+use crate::gate::OpenGate;
 use crate::merging::OFFSETS;
 use block_receiver::{Hearer, Lanes, Receiver};
 use frame_merge::Candidate;
@@ -45,15 +45,13 @@ impl Lanes for Bank {
 
 /// Has the lanes of a [`Bank`] on threads, as [`Bank::feed_threads`] does.
 #[derive(Drop)]
-pub struct OnThreads<'a, R: Threads + Sync, G: Gate> {
+pub struct OnThreads<'a, R: Threads + Sync> {
     /// What starts the threads.
     pub rt: &'a R,
-    /// What is told as the job of a lane starts.
-    pub gate: &'a G,
 }
 
-impl<'a, R: Threads + Sync, G: Gate> Hearer<Bank> for OnThreads<'a, R, G> {
-    ghost can_hear = { λ _. IsSync R.row × IsSync G.row };
+impl<'a, R: Threads + Sync> Hearer<Bank> for OnThreads<'a, R> {
+    ghost can_hear = { λ _. IsSync R.row };
 
     fn hear(
         &self,
@@ -62,7 +60,7 @@ impl<'a, R: Threads + Sync, G: Gate> Hearer<Bank> for OnThreads<'a, R, G> {
         _position: u64,
         block: &[i16],
     ) -> Result<Vec<Candidate>, OutOfMemory> {
-        let found = lanes.feed_threads(self.rt, block, self.gate)?;
+        let found = lanes.feed_threads(self.rt, block, &OpenGate)?;
         Ok(found)
     }
 }

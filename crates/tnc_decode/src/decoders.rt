@@ -141,10 +141,7 @@ impl Decoders {
     {
         let threads = is_shared(threads, block);
         match self {
-            Decoders::Plain(decoder) if threads => {
-                let gate = OpenGate;
-                decoder.block_by(&OnThreads { rt, gate: &gate }, block)
-            }
+            Decoders::Plain(decoder) if threads => decoder.block_by(&OnThreads { rt }, block),
             Decoders::Plain(decoder) => decoder.block(block),
             Decoders::Wide(decoder) if threads => decoder.block_threads(rt, block, &OpenGate),
             Decoders::Wide(decoder) => decoder.block(block),

@@ -73,9 +73,9 @@ impl BlockDecoder for Decoder {
         &mut self,
         rt: &R,
         block: &[i16],
-        gate: &Meeting,
+        _gate: &Meeting,
     ) -> Result<Vec<Candidate>, OutOfMemory> {
-        Decoder::block_by(self, &OnThreads { rt, gate }, block)
+        Decoder::block_by(self, &OnThreads { rt }, block)
     }
 
     fn end(&mut self) -> Result<Vec<Candidate>, OutOfMemory> {

@@ -11,5 +11,5 @@ returns-clause-heard g c = λ x h.
 
 pub returns-clause-bounds : goal.returns-clause-bounds
 returns-clause-bounds g c =
-    can_be_put c.args.lanes.now.position c.args.position c.in_ok-found.found.items (sym c.requires.at)
+    can_be_put c.args.lanes.now.position c.args._position c.in_ok-found.found.items (sym c.requires.at)
     c.in_ok-found.ensures.bounds c.in_ok-found.ensures.past
