@@ -19,7 +19,6 @@ use Rattle.slicer_bank.proofs.OneList.{one_list}
 use Rattle.slicer_bank.proofs.SomeList.{some_list}
 use Rattle.hf_modem.specs.MergedItems.{AreMerged as AreHfMerged, AreMergedBetween as AreHfMergedBetween}
 use Rattle.hf_modem.proofs.CandidateLemmas.{candidates_none as no_hf}
-use Rattle.block_receiver.proofs.MergedLemmas.{all_items}
 use Rattle.hf_modem.specs.Hearing.{hf_hearing}
 use Rattle.hf_modem.proofs.MergedLemmas.{is_hearing, is_in_order as hf_in_order, stays as hf_stays}
 use Rattle.hf_modem.proofs.OneList.{one_list as one_hf}
