@@ -1,6 +1,6 @@
 -- The candidates of samples are in order.
 pub use Rattle.block_receiver.proofs.PuttingLemmas.{HasPut, has_put_more, has_put_all, rising_strictly, in_order-strictly}
-use Rattle.slicer_bank.proofs.Common.{◌<◌, ℤ, List, arith, Candidate, IsInOrder, AreCandidates}
+use Rattle.slicer_bank.proofs.Common.{ℤ, List, arith, Candidate, IsInOrder, AreCandidates}
 
 pub is_in_order : (x : List ℤ) (items : List Candidate) → AreCandidates x items → IsInOrder items
 is_in_order x items h = record {

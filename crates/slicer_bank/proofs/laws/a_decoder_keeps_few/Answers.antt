@@ -1,4 +1,4 @@
-use Rattle.slicer_bank.proofs.Common.{◌≤◌, ap, arith, in_order, length}
+use Rattle.slicer_bank.proofs.Common.{ap, arith, in_order, length}
 use Rattle.slicer_bank.proofs.FewKept.{few_kept}
 use Rattle.slicer_bank.proofs.laws.a_decoder_keeps_few.Goals as goal
 
