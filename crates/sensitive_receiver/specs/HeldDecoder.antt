@@ -4,7 +4,7 @@ use Rattle.frame_merge.specs.declared.candidate.Candidate.{Candidate}
 use Rattle.frame_merge.specs.Held.{Held as HeldMerger, StandsFor as MergerStandsFor}
 use Rattle.frame_merge.specs.Merged.{merged, below, not_below}
 use Rattle.frame_merge.specs.Order.{in_order}
-use Rattle.slicer_bank.specs.declared.progress.Progress.{Progress}
+use Rattle.block_receiver.specs.declared.progress.Progress.{Progress}
 use Rattle.slicer_bank.specs.Held.{HeldBank, StandsFor as BankStandsFor}
 use Rattle.sensitive_receiver.specs.Candidates.{AreHeard}
 use Rattle.sensitive_receiver.specs.HeldLanes.{HeldBank as HeldAdded, StandsFor as AddedStandsFor}

@@ -11,7 +11,7 @@ use frame_merge::Candidate;
 use hf_modem::HfDecoder;
 use hf_sensitive::HfSensitiveDecoder;
 use sensitive_receiver::SensitiveDecoder;
-use slicer_bank::{Decoder, OpenGate};
+use slicer_bank::{Decoder, OnThreads, OpenGate};
 use std::alloc::Global;
 use std::thread::Threads;
 use tnc_base::OutOfMemory;
@@ -141,7 +141,7 @@ impl Decoders {
     {
         let threads = is_shared(threads, block);
         match self {
-            Decoders::Plain(decoder) if threads => decoder.block_threads(rt, block, &OpenGate),
+            Decoders::Plain(decoder) if threads => decoder.block_by(&OnThreads { rt }, block),
             Decoders::Plain(decoder) => decoder.block(block),
             Decoders::Wide(decoder) if threads => decoder.block_threads(rt, block, &OpenGate),
             Decoders::Wide(decoder) => decoder.block(block),

@@ -8,7 +8,7 @@ use frame_merge::Candidate;
 use hf_modem::HfDecoder;
 use hf_sensitive::HfSensitiveDecoder;
 use sensitive_receiver::SensitiveDecoder;
-use slicer_bank::Decoder;
+use slicer_bank::{Decoder, OnThreads};
 use std::alloc::Global;
 use std::thread::Threads;
 use tnc_base::OutOfMemory;
@@ -73,9 +73,9 @@ impl BlockDecoder for Decoder {
         &mut self,
         rt: &R,
         block: &[i16],
-        gate: &Meeting,
+        _gate: &Meeting,
     ) -> Result<Vec<Candidate>, OutOfMemory> {
-        Decoder::block_threads(self, rt, block, gate)
+        Decoder::block_by(self, &OnThreads { rt }, block)
     }
 
     fn end(&mut self) -> Result<Vec<Candidate>, OutOfMemory> {

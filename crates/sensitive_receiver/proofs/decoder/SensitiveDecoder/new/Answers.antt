@@ -1,5 +1,5 @@
 use Rattle.sensitive_receiver.proofs.Common.{ap}
-use Rattle.slicer_bank.specs.declared.progress.Progress.{Progress}
+use Rattle.block_receiver.specs.declared.progress.Progress.{Progress}
 use Rattle.sensitive_receiver.proofs.DecoderLemmas.{taken_none}
 use Rattle.sensitive_receiver.proofs.decoder.SensitiveDecoder.new.Goals as goal
 
