@@ -1,5 +1,5 @@
 -- What one lane hears at the place that was decided last.
-use Rattle.sensitive_receiver.proofs.Common.{◌≡◌, ℕ, ◌+◌, ◌-◌, ◌<◌, ◌≤◌, true, false, ℤ, List, [], ◌∷◌, ◌++◌, refl}
+use Rattle.sensitive_receiver.proofs.Common.{◌≡◌, ℕ, ◌+◌, ◌-◌, ◌<◌, true, false, ℤ, List, [], ◌∷◌, ◌++◌, refl}
 use Rattle.sensitive_receiver.proofs.Common.{sym, subst, ◌∙◌, arith, true≢false, Tone, bits_of, EndsFrame, Candidate}
 use Rattle.sensitive_receiver.proofs.Common.{DecidedPlace, HeldRing, tone_before, delay_of, is_told}
 use Rattle.sensitive_receiver.proofs.Common.{IsClockedOn, is_read_at, tone_read, lane_tones, lane_bits}

@@ -1,7 +1,7 @@
 -- The numbers of the clocked lanes of a list, and when they read.
 use Rattle.sensitive_receiver.proofs.Common.{◌≡◌, ℕ, ℤ, List, ◌+◌, ◌-◌, ◌<◌, ◌≤◌, ◌∙◌, ap, sym, subst, arith}
 use Rattle.sensitive_receiver.proofs.Common.{inl, inr, cases_lt, Reach, Alone, Near, Far, Slow, Fast, DecidedPlace}
-use Rattle.sensitive_receiver.proofs.Common.{IsClockedOn, is_read_at, is_told, lane_of, lanes_in, list_of, tones}
+use Rattle.sensitive_receiver.proofs.Common.{IsClockedOn, delay_of, is_read_at, is_told, lane_of, lanes_in, list_of, tones}
 unfoldable use Rattle.sensitive_receiver.specs.Lanes.{readings_at}
 use Rattle.tone_tracking.specs.Clock.{is_reading}
 
@@ -126,3 +126,62 @@ module _ (x : List ℤ) (reach : Reach) (at : DecidedPlace)
       ]
     ]
   ]
+
+-- ---- the three lanes on the slow clock of a list
+
+pub three : (reach : Reach) → 3 ≤ lanes_in reach
+three Alone = (let e : 3 ≤ 3 = omega arith in e)
+three Near = (let e : 3 ≤ 4 = omega arith in e)
+three Far = (let e : 3 ≤ 3 = omega arith in e)
+
+slow_number : (reach : Reach) (k : ℕ) → k < 3 → lane_of reach k ≡ lane_of reach 0 + k
+slow_number Alone k few = omega arith
+slow_number Near k few = (let n = near_low k few in let z = near_low 0 (omega arith) in omega arith)
+slow_number Far k few = omega arith
+
+told_low : (at : DecidedPlace) (lane : ℕ) → lane < 22 → is_told lane at ≡ at.slow
+told_low at lane l = grind arith
+
+told_high : (at : DecidedPlace) (lane : ℕ) → 23 ≤ lane → is_told lane at ≡ at.slow
+told_high at lane l = grind arith
+
+delay_near : (lane : ℕ) → 16 ≤ lane → lane < 19 → delay_of lane ≡ lane - 16
+delay_near lane least l = grind arith
+
+delay_far : (lane : ℕ) → 19 ≤ lane → lane < 22 → delay_of lane ≡ lane - 19
+delay_far lane least l = grind arith
+
+delay_alone : (lane : ℕ) → 23 ≤ lane → delay_of lane ≡ lane - 23
+delay_alone lane least = grind arith
+
+-- each has the next number, follows the slow clock, and reads a place before the one before it
+pub record IsSlowLane (reach : Reach) (at : DecidedPlace) (lane k : ℕ) : Type 0 where
+  pub number : lane_of reach k ≡ lane
+  pub told : is_told lane at ≡ at.slow
+  pub list : list_of lane ≡ reach
+  pub delay : delay_of lane ≡ k
+
+slow_from : (reach : Reach) (at : DecidedPlace) (lane k : ℕ) → lane_of reach k ≡ lane → k < 3
+    → is_told lane at ≡ at.slow → delay_of lane ≡ k → IsSlowLane reach at lane k
+slow_from reach at lane k is few told delay = record {
+  number = is;
+  told = told;
+  list = ap list_of (sym is) ∙ (lane_of-clocked reach k (let t = three reach in omega arith)).1;
+  delay = delay;
+}
+
+pub slow_lane : (reach : Reach) (at : DecidedPlace) (k : ℕ) → k < 3 → IsSlowLane reach at (lane_of reach 0 + k) k
+slow_lane Alone at k few =
+    let n = slow_number Alone k few in
+    slow_from Alone at (23 + 0 + k) k n few (told_high at (23 + 0 + k) (omega arith))
+    (delay_alone (23 + 0 + k) (omega arith) ∙ omega arith)
+slow_lane Near at k few =
+    let lane : ℕ = lane_of Near 0 + k in
+    let n = slow_number Near k few in
+    let low = near_low k few in
+    slow_from Near at lane k n few (told_low at lane (omega arith))
+    (delay_near lane (omega arith) (omega arith) ∙ omega arith)
+slow_lane Far at k few =
+    let n = slow_number Far k few in
+    slow_from Far at (19 + 0 + k) k n few (told_low at (19 + 0 + k) (omega arith))
+    (delay_far (19 + 0 + k) (omega arith) (omega arith) ∙ omega arith)

@@ -1,12 +1,12 @@
 -- The lanes of a list at one place: which of them read, and what they have read once some of them have.
-use Rattle.sensitive_receiver.proofs.Common.{◌≡◌, ◌≢◌, ℕ, ◌+◌, ◌-◌, ◌%◌, ◌<◌, ◌≤◌, true, false, ℤ, List, length, get_or}
-use Rattle.sensitive_receiver.proofs.Common.{set, ap, sym, subst, ◌∙◌, arith, inl, inr, nat_lt, if◌then◌else◌, ◌==◌}
-use Rattle.sensitive_receiver.proofs.Common.{cases_lt, cases_eq, lt-ltb, eqb-true, true≢false, Candidate, DecidedPlace}
-use Rattle.sensitive_receiver.proofs.Common.{EndsAtPlace, AddsAmong, AddsAt, AddsIn, HeldLane, HeldRing, IsLastPlace}
-use Rattle.sensitive_receiver.proofs.Common.{LaneStandsFor, LanesAreAt, LanesHaveRead, Reach, Far, is_read_at, is_told}
+use Rattle.sensitive_receiver.proofs.Common.{◌≡◌, ◌≢◌, ℕ, ◌+◌, ◌<◌, ◌≤◌, false, ℤ, List, length, get_or}
+use Rattle.sensitive_receiver.proofs.Common.{set, ap, sym, subst, ◌∙◌, arith, inl, inr, if◌then◌else◌}
+use Rattle.sensitive_receiver.proofs.Common.{cases_lt, cases_eq, lt-ltb, true≢false, Candidate, DecidedPlace}
+use Rattle.sensitive_receiver.proofs.Common.{AddsAmong, AddsAt, AddsIn, HeldLane, HeldRing, IsLastPlace}
+use Rattle.sensitive_receiver.proofs.Common.{LaneStandsFor, LanesAreAt, LanesHaveRead, Reach, is_read_at, is_told}
 use Rattle.sensitive_receiver.proofs.Common.{IsClockedOn, lane_of, lane_tones, lanes_in}
 use Rattle.std.proofs.Common.{get_or-set_same, get_or-set_other}
-use Rattle.std.proofs.lemmas.Bool.{le-ltb, ne_eqb}
+use Rattle.std.proofs.lemmas.Bool.{le-ltb}
 use Rattle.sensitive_receiver.specs.HeldList.{places_read}
 use Rattle.sensitive_receiver.proofs.FoundLemmas.{adds_join, adds_none}
 use Rattle.sensitive_receiver.proofs.LaneLemmas.{lane_tones-not}

@@ -6,6 +6,7 @@ ghost use Rattle.hdlc_framer.specs.Frames.{IsFrame};
 ghost use Rattle.hdlc_framer.specs.Held.{HoldsFrame};
 ghost use Rattle.tone_table.specs.declared.tone.Tone.{Tone};
 ghost use Rattle.tone_tracking.specs.Clock.{changes};
+ghost use Rattle.tone_tracking.specs.declared.reach.Reach.TheVariants.{Near};
 ghost use Rattle.sensitive_receiver.specs.AddedCandidates.{is_in_time};
 ghost use Rattle.sensitive_receiver.specs.Found.{AddsAt, AddsIn, HasRoomFrom};
 ghost use Rattle.sensitive_receiver.specs.HeldLanes.{HoldsFrameOf};
@@ -17,7 +18,7 @@ ghost use Rattle.sensitive_receiver.specs.ListLanes.{is_told, lane_of, lanes_in}
 
 use crate::added_lane::has_path;
 use crate::decided_place::DecidedPlace;
-use crate::lanes::delay_of;
+use crate::lanes::{delay_of, first_slow};
 use crate::late_lane::LateLane;
 use frame_merge::Candidate;
 use std::alloc::Global;
@@ -50,64 +51,67 @@ pub(crate) fn hear_place(
     ensures bounds { (low : ℕ) → low ≤ at.now.place + 6
         → OnOk result (All (HasRoomFrom low) found.old.items → All (HasRoomFrom low) found.new.items) }
 {
+    hear_slow(alloc, ring, lanes, first_slow(reach), at, found)?;
     match reach {
-        Reach::Alone => hear_clocked(alloc, ring, lanes, 0, 3, 23, 0, at, found),
-        Reach::Near => {
-            hear_clocked(alloc, ring, lanes, 0, 3, 16, 0, at, found)?;
-            hear_clocked(alloc, ring, lanes, 3, 4, 22, 1, at, found)
-        }
-        Reach::Far => hear_clocked(alloc, ring, lanes, 0, 3, 19, 0, at, found),
+        Reach::Near => hear_fast(alloc, ring, lanes, at, found),
+        Reach::Alone | Reach::Far => Ok(()),
     }
 }
 
-/// Has some lanes of a list, from one to below another in their order, read their bits if the clock that they share says
-/// so. The first of them has a number and reads some places before the last one. Each of the others has the next number,
-/// and reads a place before the one before it.
+/// Has the three lanes on the slow clock of a list, from the first on, read their bits if it says so. Each reads a place
+/// before the one before it.
 #[inline(always)]
-fn hear_clocked(
+fn hear_slow(
     alloc: Global,
     ring: &ToneRing,
     lanes: &mut [LateLane],
     first: u8,
-    end: u8,
-    number: u8,
-    delay: u8,
     at: &DecidedPlace,
     found: &mut Vec<Candidate>,
 ) -> Result<(), OutOfMemory>
+    requires first { first ≡ lane_of ring.now.reach 0 }
+    requires few { (16 ≤ first) × (first ≤ 23) }
     requires lanes { length lanes.old ≡ lanes_in ring.now.reach }
-    requires range { (first < end) × (end ≤ lanes_in ring.now.reach) }
-    requires number { (16 ≤ number) × (number + (end - first) ≤ 26) }
-    requires few { delay + (end - first) ≤ 3 }
-    requires numbers { (k : ℕ) → first ≤ k → k < end → lane_of ring.now.reach k ≡ number + (k - first) }
-    requires clock { (j : ℕ) → j < end - first → is_told (number + j) at.now ≡ is_told number at.now }
-    requires list { (j : ℕ) → j < end - first → list_of (number + j) ≡ ring.now.reach }
-    requires delay { (j : ℕ) → j < end - first → delay_of (number + j) ≡ delay + j }
     requires room { ring.now.place < 2 ^ 49 }
     requires place { at.now.place < 2 ^ 48 }
     ensures lanes { length lanes.new ≡ lanes_in ring.now.reach }
-    ensures hear { OnOk result (LanesHear first end ring.now at.now
-        lanes.old lanes.new found.old.items found.new.items) }
+    ensures hear { OnOk result (LanesHear 0 3 ring.now at.now lanes.old lanes.new found.old.items found.new.items) }
     ensures bounds { (low : ℕ) → low ≤ at.now.place + 6
         → OnOk result (All (HasRoomFrom low) found.old.items → All (HasRoomFrom low) found.new.items) }
 {
-    if !at.is_read_by(number) {
+    if !at.slow {
         return Ok(());
     }
-    for index in first..end {
+    for index in 0..3 {
         let lane = &mut lanes[usize::from(index)];
-        let further = index - first;
-        hear(
-            alloc,
-            ring,
-            lane,
-            number + further,
-            delay + further,
-            at,
-            found,
-        )?;
+        hear(alloc, ring, lane, first + index, index, at, found)?;
     }
     Ok(())
+}
+
+/// Has the lane on the fast clock of the near list read its bit if the clock says so.
+#[inline(always)]
+fn hear_fast(
+    alloc: Global,
+    ring: &ToneRing,
+    lanes: &mut [LateLane],
+    at: &DecidedPlace,
+    found: &mut Vec<Candidate>,
+) -> Result<(), OutOfMemory>
+    requires reach { ring.now.reach ≡ Near }
+    requires lanes { length lanes.old ≡ 4 }
+    requires room { ring.now.place < 2 ^ 49 }
+    requires place { at.now.place < 2 ^ 48 }
+    ensures lanes { length lanes.new ≡ 4 }
+    ensures hear { OnOk result (LanesHear 3 4 ring.now at.now lanes.old lanes.new found.old.items found.new.items) }
+    ensures bounds { (low : ℕ) → low ≤ at.now.place + 6
+        → OnOk result (All (HasRoomFrom low) found.old.items → All (HasRoomFrom low) found.new.items) }
+{
+    if !at.fast {
+        return Ok(());
+    }
+    let lane = &mut lanes[3];
+    hear(alloc, ring, lane, 22, 1, at, found)
 }
 
 /// Has a lane read its bit at the place that was decided last, and adds the frame that ends with it. Its delay is handed

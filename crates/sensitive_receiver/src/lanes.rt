@@ -2,7 +2,7 @@
 
 ghost use Rattle.std.specs.Prelude.{◌≡◌, ◌<◌, ◌≤◌};
 ghost use Rattle.sensitive_receiver.specs.Lanes.{delay_of};
-ghost use Rattle.sensitive_receiver.specs.ListLanes.{lanes_in};
+ghost use Rattle.sensitive_receiver.specs.ListLanes.{lane_of, lanes_in};
 
 use tone_tracking::Reach;
 
@@ -38,5 +38,17 @@ pub(crate) fn lanes_in(reach: Reach) -> u64
     match reach {
         Reach::Alone | Reach::Far => 3,
         Reach::Near => 4,
+    }
+}
+
+/// The first of the three lanes on the slow clock of a list.
+pub(crate) fn first_slow(reach: Reach) -> u8
+    ensures lane { result ≡ lane_of reach 0 }
+    ensures bound { (16 ≤ result) × (result ≤ 23) }
+{
+    match reach {
+        Reach::Alone => 23,
+        Reach::Near => 16,
+        Reach::Far => 19,
     }
 }
