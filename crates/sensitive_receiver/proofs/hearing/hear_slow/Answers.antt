@@ -1,7 +1,6 @@
-use Rattle.sensitive_receiver.proofs.Common.{◌≡◌, ◌∙◌, ℕ, ℤ, ◌+◌, ◌<◌, ◌≤◌, List, get_or, set, ap, false, sym, subst}
-use Rattle.sensitive_receiver.proofs.Common.{arith, Candidate, AddsAt, HeldLane, IsLastPlace, LaneStandsFor, LanesHear}
-use Rattle.sensitive_receiver.proofs.Common.{is_told, lane_of, lane_tones}
-use Rattle.sensitive_receiver.proofs.ListNumbers.{slow_lane, three}
+use Rattle.sensitive_receiver.proofs.Common.{◌≡◌, ◌∙◌, ℕ, ℤ, ◌+◌, List, get_or, set, ap, sym, subst}
+use Rattle.sensitive_receiver.proofs.Common.{arith, Candidate, AddsAt, HeldLane, LastIsRead, LaneStandsFor, LanesHear}
+use Rattle.sensitive_receiver.proofs.Common.{lane_of, lane_tones}
 use Rattle.sensitive_receiver.proofs.PlaceLanes.{adds_silent, lanes_silent}
 use Rattle.sensitive_receiver.proofs.VisitedLanes.{Visited, visited_none, visited_more}
 use Rattle.sensitive_receiver.proofs.hearing.hear_slow.Goals as goal
@@ -10,14 +9,10 @@ pub returns-then-not-at-clause-hear : goal.returns-then-not-at-clause-hear
 returns-then-not-at-clause-hear c =
     let ring = c.args.ring.now in
     let at = c.args.at.now in
-    let silent : (k : ℕ) → 0 ≤ k → k < 3 → is_told (lane_of ring.reach k) at ≡ false
-    = λ k le l.
-    let lane = slow_lane ring.reach at k l in
-    ap (λ n. is_told n at) lane.number ∙ lane.told ∙ c.if-not-at.true in
     record {
-      read = λ x last. lanes_silent ring at 0 3 c.args.lanes.now x (omega arith) (three ring.reach) last silent;
-      found = λ x last h. adds_silent ring at 0 3 c.args.lanes.now x (omega arith) (three ring.reach) last
-          silent c.args.found.now.items;
+      read = λ x last. lanes_silent ring at 0 3 c.args.lanes.now x (omega arith) (omega arith) last c.if-not-at.true;
+      found = λ x last h. adds_silent ring at 0 3 c.args.lanes.now x (omega arith) (omega arith) last c.if-not-at.true
+          c.args.found.now.items;
     }
 
 pub loop-index-init : goal.loop-index-init
@@ -36,17 +31,15 @@ loop-index-preserved c =
     let after : List Candidate = c.hear.new.found.items in
     let test = c.loop-index-test.true in
     let number : ℕ = c.args.first + n in
-    let few = three ring.reach in
-    let numbered : lane_of ring.reach n ≡ number = (slow_lane ring.reach at n (omega arith)).number
-    ∙ ap (λ m. m + n) (sym c.requires.first) in
+    let numbered : lane_of ring.reach n ≡ number = ap (λ m. m + n) (sym c.requires.first) in
     subst (λ i. Visited ring at c.args.lanes.now (set lanes i lane) c.args.found.now.items after 0 (n + 1))
     (sym c.from.ensures)
     (visited_more ring at c.args.lanes.now lanes c.args.found.now.items found after 0 n number was lane
-    c.loop-index.invariant (omega arith) numbered
-    (subst (λ i. (x : List ℤ) → IsLastPlace ring at x
+    c.loop-index.invariant (omega arith) numbered c.if-not-at.false
+    (subst (λ i. (x : List ℤ) → LastIsRead ring number at.place x
     → LaneStandsFor (get_or lanes i was) (lane_tones x number at.place)
     → LaneStandsFor lane (lane_tones x number (at.place + 1))) c.from.ensures c.hear.ensures.read)
-    (subst (λ i. (x : List ℤ) → IsLastPlace ring at x
+    (subst (λ i. (x : List ℤ) → LastIsRead ring number at.place x
     → LaneStandsFor (get_or lanes i was) (lane_tones x number at.place)
     → AddsAt at.place number x found after) c.from.ensures c.in_ok-hear.ensures.found)
     c.in_ok-hear.ensures.bounds)

@@ -1,0 +1,10 @@
+use Rattle.sensitive_receiver.proofs.Common.{subst}
+use Rattle.sensitive_receiver.specs.HeardBlock.{HearsBlock}
+use Rattle.sensitive_receiver.specs.HeldLanes.{HeldBank, bank_of}
+use Rattle.sensitive_receiver.proofs.added_bank.AddedBank.feed_threads.Goals as goal
+
+pub returns : goal.returns
+returns g c =
+    let P : HeldBank → Type 0 = λ old. HearsBlock old (bank_of c.feed_block_threads.new.line c.feed_block_threads.new.banks) c.args.block.now
+    c.in_ok-found.found.items in
+    subst P c.self.view_is c.in_ok-found.ensures.heard
