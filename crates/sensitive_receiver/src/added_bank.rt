@@ -1,12 +1,17 @@
 //! The eighteen lanes that are added to one for each offset of a bit.
 
-ghost use Rattle.std.specs.Prelude.{◌≡◌, ◌+◌, ◌<◌, ◌^◌, [], length, IfOk};
+ghost use Rattle.std.specs.Prelude.{◌≡◌, ◌+◌, ◌<◌, ◌^◌, [], length, IfOk, OnOk};
+ghost use Rattle.std.specs.List.{All};
+ghost use Rattle.slicer_bank.specs.Feeding.{FeedsBlock};
+ghost use Rattle.slicer_bank.specs.Merging.{AllPast, CanBePut};
 ghost use Rattle.sensitive_receiver.specs.HeardBlock.{HearsBlock};
 ghost use Rattle.sensitive_receiver.specs.HeldLanes.{StandsFor};
 
 use crate::added_banks::AddedBanks;
-use crate::pieces::{feed_block, feed_block_threads};
+use crate::pieces::{feed_block, feed_block_beside};
+use crate::reading::Heard;
 use frame_merge::Candidate;
+use slicer_bank::Bank;
 use std::alloc::Global;
 use std::marker::Model;
 use std::thread::Threads;
@@ -74,25 +79,29 @@ impl AddedBank {
         Ok(found)
     }
 
-    /// Does what [`AddedBank::feed`] does. If the block is long, the tones are decided and the banks read them on threads, and
-    /// the block is one piece.
-    pub fn feed_threads<R: Threads + Sync>(
+    /// Does what [`AddedBank::feed`] does, and [`Bank::feed`] for eight plain lanes. If the block is long, the tones are decided
+    /// on threads, and then the banks of added lanes and the eight lanes share the machine.
+    pub fn feed_beside<R: Threads + Sync>(
         &mut self,
         rt: &R,
+        bank: &mut Bank,
         block: &[i16],
-    ) -> Result<Vec<Candidate>, OutOfMemory>
-        requires { self.old.position + length block.now < 2 ^ 48 }
-        ensures { IfOk result (λ found. HearsBlock self.old self.new block.now found.items) }
+    ) -> (Heard, Heard)
+        requires room { self.old.position + length block.now < 2 ^ 48 }
+        requires bank { bank.old.position + length block.now < 2 ^ 48 }
+        ensures eight { IfOk result.0 (λ found. FeedsBlock bank.old bank.new block.now found.items) }
+        ensures eight_bounds { IfOk result.0 (λ found. All CanBePut found.items) }
+        ensures eight_past { IfOk result.0 (λ found. AllPast bank.old.position found.items) }
+        ensures eight_position { OnOk result.0 (bank.new.position ≡ bank.old.position + length block.now) }
+        ensures added { IfOk result.1 (λ found. HearsBlock self.old self.new block.now found.items) }
     {
-        if block.len() < LONG {
-            return self.feed(block);
-        }
-        if self.spent {
-            return Err(OutOfMemory);
+        if self.spent || block.len() < LONG {
+            let found = bank.feed(block);
+            return (found, self.feed(block));
         }
         self.spent = true;
-        let found = feed_block_threads(rt, &mut self.line, &mut self.banks, block)?;
-        self.spent = false;
-        Ok(found)
+        let (found, added) = feed_block_beside(rt, &mut self.line, &mut self.banks, bank, block);
+        self.spent = added.is_err();
+        (found, added)
     }
 }
