@@ -1,96 +1,63 @@
 -- A bank of added lanes with a piece of samples more.
-use Rattle.sensitive_receiver.proofs.Common.{◌≡◌, ℕ, ◌+◌, ◌-◌, ◌<◌, ◌≤◌, Bool, ℤ, List, [], ◌∷◌, ◌++◌, length, get_or, refl}
-use Rattle.sensitive_receiver.proofs.Common.{true, false, ap, sym, subst, ◌∙◌, arith, inl, inr, ◌⊎◌, append_assoc, append-nil}
-use Rattle.sensitive_receiver.proofs.Common.{length-append, cases_lt, true≢false, Candidate, All, All-append, All-nil, All-weaker}
-use Rattle.sensitive_receiver.proofs.Common.{Reach, Near, Far, Alone, IsClockedOn, list_of, added_places, HeldList, AreAddedBetween, AreAddedIn}
+use Rattle.sensitive_receiver.proofs.Common.{◌≡◌, ℕ, ◌+◌, ◌-◌, ◌<◌, ◌≤◌, ◌^◌, ℤ, List, [], ◌∷◌, ◌++◌, length, get_or}
+use Rattle.sensitive_receiver.proofs.Common.{ap, sym, subst, ◌∙◌, arith, inl, inr, append_assoc, append-nil}
+use Rattle.sensitive_receiver.proofs.Common.{length-append, cases_lt, Candidate, All, All-append, All-nil, All-weaker}
+use Rattle.sensitive_receiver.proofs.Common.{Reach, Near, Far, Alone, IsSlowOn, added_places, HeldList, AreAddedBetween, AreAddedIn}
 use Rattle.sensitive_receiver.proofs.Common.{HasRead, HasRoomFrom}
 use Rattle.tone_tracking.specs.declared.place_tones.PlaceTones.{PlaceTones}
 use Rattle.tone_tracking.specs.HeldLine.{HeldLine, HasTaken as LineHasTaken, TakesBlock as LineTakesBlock, decided_in}
+use Rattle.sensitive_receiver.specs.FastLane.{FastHasRead}
+use Rattle.sensitive_receiver.specs.FiveBanks.{AllReadLine, AreAt, HaveRead, HaveRoom, HeldBanks}
+use Rattle.sensitive_receiver.specs.FixedLanes.{FixedHasRead}
 use Rattle.sensitive_receiver.specs.Found.{AreAddedWhere, HasRoom, IsAddedFrom}
-use Rattle.sensitive_receiver.specs.FixedLanes.{FixedHasRead, HeldFixed}
-use Rattle.sensitive_receiver.specs.FourBanks.{AllReadLine, AreAt, HaveRead}
 use Rattle.sensitive_receiver.specs.HeardBlock.{HearsBlock}
 use Rattle.sensitive_receiver.specs.Hearing.{AreTonesOf, ReadsLine}
 use Rattle.sensitive_receiver.specs.HeldLanes.{HeldBank, StandsFor, bank_of}
 use Rattle.sensitive_receiver.proofs.FoundLemmas.{where_join, where_none}
-use Rattle.sensitive_receiver.proofs.PrefixLanes.{ends-append, ends-take, fixed_read-append, list_read-append}
+use Rattle.sensitive_receiver.proofs.PrefixLanes.{ends-append, ends-take, fast_read-append, fixed_read-append, list_read-append}
 
 -- ---- what the banks find, joined
 
-abbrev is_alone : Reach → Bool
-is_alone Alone = true
-is_alone Near = false
-is_alone Far = false
+-- items of some places, of the lanes below one
+abbrev IsBelow : ℕ → ℕ → ℕ → ℕ → ℕ → Type 0
+IsBelow from to n p l = ((from ≤ p) × (p < to)) × (l < n)
 
-abbrev is_far : Reach → Bool
-is_far Alone = false
-is_far Near = false
-is_far Far = true
+-- and of the lanes that follow
+next_join : (from to m n : ℕ) (Next : ℕ → Type 0) (x : List ℤ) (items more : List Candidate) → m ≤ n
+    → ((l : ℕ) → Next l → (m ≤ l) × (l < n)) → ((l : ℕ) → m ≤ l → l < n → Next l)
+    → AreAddedWhere (IsBelow from to m) x items → AreAddedWhere (λ p l. ((from ≤ p) × (p < to)) × Next l) x more
+    → AreAddedWhere (IsBelow from to n) x (items ++ more)
+next_join from to m n Next x items more le inside is a b =
+    where_join (IsBelow from to m) (λ p l. ((from ≤ p) × (p < to)) × Next l) (IsBelow from to n) x items more a b
+    (λ p l h. (h.0, (let small = h.1 in omega arith)))
+    (λ p l h. (h.0, (inside l h.1).1))
+    (λ p l h. elim (cases_lt l m) [ inl low ↦ inl (h.0, low) | inr high ↦ inr (h.0, is l high h.1) ])
+    (λ p l h k. let small = h.1 in let least = (inside l k.1).0 in omega arith)
 
--- a lane of the lists that reach less far, or one of the far list
-abbrev IsShort : ℕ → Type 0
-IsShort l = IsClockedOn Alone l ⊎ IsClockedOn Near l
+-- no other lane adds anything
+all_below : (from to : ℕ) (x : List ℤ) (items : List Candidate) → AreAddedWhere (IsBelow from to 26) x items
+    → AreAddedBetween from to x items
+all_below from to x items a = record {
+  each = λ k d l. let e = a.each k d l in (e.0, e.1.0, e.2);
+  whole = λ item place of ends. a.whole item place (of, ends.most) ends;
+  apart = a.apart;
+}
 
-abbrev IsOfFar : ℕ → Type 0
-IsOfFar l = (l < 16) ⊎ IsClockedOn Far l
-
-clocked_lane : (l : ℕ) (reach : Reach) → 16 ≤ l → list_of l ≡ reach → IsShort l ⊎ IsOfFar l
-clocked_lane l Alone least is = inl (inl (least, is))
-clocked_lane l Near least is = inl (inr (least, is))
-clocked_lane l Far least is = inr (inr (least, is))
-
-some_lane : (l : ℕ) → IsShort l ⊎ IsOfFar l
-some_lane l = elim (cases_lt l 16) [
-  | inl fixed ↦ inr (inl fixed)
-  | inr clocked ↦ clocked_lane l (list_of l) clocked refl
-]
-
--- no lane is both
-not_far : (l : ℕ) (reach : Reach) → is_far reach ≡ false → IsClockedOn reach l → IsOfFar l → ⊥
-not_far l reach other of far = elim far [
-  | inl fixed ↦ (let least = of.0 in omega arith)
-  | inr clocked ↦ true≢false (sym (ap is_far (sym of.1 ∙ clocked.1)) ∙ other)
-]
-
-short_not_far : (l : ℕ) → IsShort l → IsOfFar l → ⊥
-short_not_far l short far = elim short [
-  | inl of ↦ not_far l Alone refl of far
-  | inr of ↦ not_far l Near refl of far
-]
-
-short_join : (from to : ℕ) (x : List ℤ) (alone near : List Candidate) → AreAddedIn Alone from to x alone
-    → AreAddedIn Near from to x near
-    → AreAddedWhere (λ p l. ((from ≤ p) × (p < to)) × IsShort l) x (alone ++ near)
-short_join from to x alone near a n =
-    let Here : ℕ → Type 0 = λ p. (from ≤ p) × (p < to) in
-    where_join (λ p l. Here p × IsClockedOn Alone l) (λ p l. Here p × IsClockedOn Near l)
-    (λ p l. Here p × IsShort l) x alone near a n
-    (λ p l h. (h.0, inl h.1)) (λ p l h. (h.0, inr h.1))
-    (λ p l h. elim h.1 [ inl is ↦ inl (h.0, is) | inr is ↦ inr (h.0, is) ])
-    (λ p l h k. true≢false (ap is_alone (sym h.1.1 ∙ k.1.1)))
-
-far_join : (from to : ℕ) (x : List ℤ) (fixed far : List Candidate)
-    → AreAddedWhere (λ p l. ((from ≤ p) × (p < to)) × (l < 16)) x fixed → AreAddedIn Far from to x far
-    → AreAddedWhere (λ p l. ((from ≤ p) × (p < to)) × IsOfFar l) x (fixed ++ far)
-far_join from to x fixed far i f =
-    let Here : ℕ → Type 0 = λ p. (from ≤ p) × (p < to) in
-    where_join (λ p l. Here p × (l < 16)) (λ p l. Here p × IsClockedOn Far l)
-    (λ p l. Here p × IsOfFar l) x fixed far i f
-    (λ p l h. (h.0, inl h.1)) (λ p l h. (h.0, inr h.1))
-    (λ p l h. elim h.1 [ inl is ↦ inl (h.0, is) | inr is ↦ inr (h.0, is) ])
-    (λ p l h k. let small = h.1 in let least = k.1.0 in omega arith)
-
-banks_join : (from to : ℕ) (x : List ℤ) (alone near fixed far : List Candidate)
-    → AreAddedIn Alone from to x alone → AreAddedIn Near from to x near
-    → AreAddedWhere (λ p l. ((from ≤ p) × (p < to)) × (l < 16)) x fixed → AreAddedIn Far from to x far
-    → AreAddedBetween from to x ((alone ++ near) ++ (fixed ++ far))
-banks_join from to x alone near fixed far a n i f =
-    let Here : ℕ → Type 0 = λ p. (from ≤ p) × (p < to) in
-    where_join (λ p l. Here p × IsShort l) (λ p l. Here p × IsOfFar l) (λ p l. Here p) x (alone ++ near) (fixed ++ far)
-    (short_join from to x alone near a n) (far_join from to x fixed far i f)
-    (λ p l h. h.0) (λ p l h. h.0)
-    (λ p l h. elim (some_lane l) [ inl is ↦ inl (h, is) | inr is ↦ inr (h, is) ])
-    (λ p l h k. short_not_far l h.1 k.1)
+banks_join : (from to : ℕ) (x : List ℤ) (fixed near far fast alone : List Candidate)
+    → AreAddedWhere (IsBelow from to 16) x fixed
+    → AreAddedIn Near from to x near → AreAddedIn Far from to x far
+    → AreAddedWhere (λ p l. ((from ≤ p) × (p < to)) × (l ≡ 22)) x fast → AreAddedIn Alone from to x alone
+    → AreAddedBetween from to x ((((fixed ++ near) ++ far) ++ fast) ++ alone)
+banks_join from to x fixed near far fast alone i n f q a =
+    let some = next_join from to 16 19 (IsSlowOn Near) x fixed near (omega arith)
+    (λ l h. (h.0, h.1)) (λ l least most. (least, most)) i n in
+    let more = next_join from to 19 22 (IsSlowOn Far) x (fixed ++ near) far (omega arith)
+    (λ l h. (h.0, h.1)) (λ l least most. (least, most)) some f in
+    let most = next_join from to 22 23 (λ l. l ≡ 22) x ((fixed ++ near) ++ far) fast (omega arith)
+    (λ l h. (omega arith, omega arith)) (λ l least most. omega arith) more q in
+    all_below from to x ((((fixed ++ near) ++ far) ++ fast) ++ alone)
+    (next_join from to 23 26 (IsSlowOn Alone) x (((fixed ++ near) ++ far) ++ fast) alone (omega arith)
+    (λ l h. (h.0, h.1)) (λ l least most. (least, most)) most a)
 
 -- what is found of the first samples is found of all
 found-append : (x y : List ℤ) (from to : ℕ) (items : List Candidate) → to ≤ added_places (length x)
@@ -119,56 +86,51 @@ found_more x y from middle to items more le le' inside a b =
 
 -- ---- one piece
 
--- the items are those of each bank
-all_joined : (a n : HeldList) (i : HeldFixed) (f a' n' : HeldList) (i' : HeldFixed) (f' : HeldList) (row : List PlaceTones) (items : List Candidate)
-    (reads : AllReadLine a n i f a' n' i' f' row items)
-    → items ≡ (reads.short_read.alone_heard ++ reads.short_read.near_heard)
-    ++ (reads.all_far_read.fixed_heard ++ reads.all_far_read.far_heard)
-all_joined a n i f a' n' i' f' row items reads =
-    reads.joined ∙ ap (λ t. t ++ reads.all_far_heard) reads.short_read.joined
-    ∙ ap (λ t. (reads.short_read.alone_heard ++ reads.short_read.near_heard) ++ t) reads.all_far_read.joined
-
 -- what all banks hear has room
-all_bounds : (place low : ℕ) (a n : HeldList) (i : HeldFixed) (f a' n' : HeldList) (i' : HeldFixed) (f' : HeldList) (row : List PlaceTones) (items : List Candidate)
-    → AreAt place a n i f → low ≤ place + 6 → AllReadLine a n i f a' n' i' f' row items → All (HasRoomFrom low) items
-all_bounds place low a n i f a' n' i' f' row items at le reads =
+all_bounds : (place low : ℕ) (old new : HeldBanks) (row : List PlaceTones) (items : List Candidate)
+    → AreAt place old → low ≤ place + 6 → AllReadLine old new row items → All (HasRoomFrom low) items
+all_bounds place low old new row items at le reads =
     let P : Candidate → Type 0 = HasRoomFrom low in
-    let l = reads.short_read in
-    let h = reads.all_far_read in
     let weaker : (from : ℕ) (some : List Candidate) → from ≡ place → All (HasRoomFrom (from + 6)) some → All P some
     = λ from some is all k d l.
     let one = all k d l in
     let end = one.from.end in
     record { room = one.room; from = record { lane = one.from.lane; end = omega arith } } in
-    subst (All P) (sym (all_joined a n i f a' n' i' f' row items reads))
-    (All-append P (l.alone_heard ++ l.near_heard) (h.fixed_heard ++ h.far_heard)
-    (All-append P l.alone_heard l.near_heard
-    (weaker a.ring.place l.alone_heard at.alone_place l.alone_reads.bounds)
-    (weaker n.ring.place l.near_heard at.near_place l.near_reads.bounds))
-    (All-append P h.fixed_heard h.far_heard
-    (weaker i.place h.fixed_heard at.fixed_place h.fixed_reads.bounds)
-    (weaker f.ring.place h.far_heard at.far_place h.far_reads.bounds)))
+    let i = reads.fixed_heard in
+    let n = reads.near_heard in
+    let f = reads.far_heard in
+    let q = reads.fast_heard in
+    subst (All P) (sym reads.joined)
+    (All-append P (((i ++ n) ++ f) ++ q) reads.alone_heard
+    (All-append P ((i ++ n) ++ f) q
+    (All-append P (i ++ n) f
+    (All-append P i n
+    (weaker old.fixed.place i at.fixed_place reads.fixed_reads.bounds)
+    (weaker old.near.ring.place n at.near_place reads.near_reads.bounds))
+    (weaker old.far.ring.place f at.far_place reads.far_reads.bounds))
+    (weaker old.fast.ring.place q at.fast_place reads.fast_reads.bounds))
+    (weaker old.alone.ring.place reads.alone_heard at.alone_place reads.alone_reads.bounds))
 
 -- where the banks are when they have read a line
-all_at : (place count : ℕ) (a n : HeldList) (i : HeldFixed) (f a' n' : HeldList) (i' : HeldFixed) (f' : HeldList) (row : List PlaceTones) (items : List Candidate)
-    → AreAt place a n i f → count ≡ place + length row → AllReadLine a n i f a' n' i' f' row items
-    → AreAt count a' n' i' f'
-all_at place count a n i f a' n' i' f' row items at is reads =
+all_at : (place count : ℕ) (old new : HeldBanks) (row : List PlaceTones) (items : List Candidate)
+    → AreAt place old → count ≡ place + length row → AllReadLine old new row items → AreAt count new
+all_at place count old new row items at is reads =
     let next : (was now : HeldList) (heard : List Candidate) → was.ring.place ≡ place → ReadsLine was now row heard
     → now.ring.place ≡ count
     = λ was now heard here line. let end = line.place in omega arith in
-    let l = reads.short_read in
-    let h = reads.all_far_read in
-    let here = at.fixed_place in
-    let end = h.fixed_reads.place in
+    let fixed_here = at.fixed_place in
+    let fixed_end = reads.fixed_reads.place in
+    let fast_here = at.fast_place in
+    let fast_end = reads.fast_reads.place in
     record {
-      alone_list = l.alone_reads.list ∙ at.alone_list;
-      near_list = l.near_reads.list ∙ at.near_list;
-      far_list = h.far_reads.list ∙ at.far_list;
-      alone_place = next a a' l.alone_heard at.alone_place l.alone_reads;
-      near_place = next n n' l.near_heard at.near_place l.near_reads;
+      near_list = reads.near_reads.list ∙ at.near_list;
+      far_list = reads.far_reads.list ∙ at.far_list;
+      alone_list = reads.alone_reads.list ∙ at.alone_list;
       fixed_place = omega arith;
-      far_place = next f f' h.far_heard at.far_place h.far_reads;
+      near_place = next old.near new.near reads.near_heard at.near_place reads.near_reads;
+      far_place = next old.far new.far reads.far_heard at.far_place reads.far_reads;
+      fast_place = omega arith;
+      alone_place = next old.alone new.alone reads.alone_heard at.alone_place reads.alone_reads;
     }
 
 -- items that have room, and are late enough
@@ -179,15 +141,15 @@ are_late : (low : ℕ) (items : List Candidate) → All (HasRoomFrom low) items 
 are_late low items all = All-weaker (HasRoomFrom low) (IsAddedFrom low) (λ item one. one.from) items all
 
 -- the banks read the line of a piece, by the samples with it
-module _ (line : HeldLine) (alone near : HeldList) (fixed : HeldFixed) (far a n : HeldList) (i : HeldFixed) (f : HeldList) (row : List PlaceTones) (piece : List ℤ)
+module _ (line : HeldLine) (old new : HeldBanks) (row : List PlaceTones) (piece : List ℤ)
     (items : List Candidate) (x : List ℤ)
     (first : line.first ≡ added_places (length x))
     (taken : LineHasTaken line (x ++ piece))
     (are : AreTonesOf line.first row (x ++ piece))
     (size : line.first + length row ≡ decided_in line.count)
-    (reads : AllReadLine alone near fixed far a n i f row items)
-    (at : AreAt (added_places (length x)) alone near fixed far)
-    (read : HaveRead alone near fixed far x) where
+    (reads : AllReadLine old new row items)
+    (at : AreAt (added_places (length x)) old)
+    (read : HaveRead old x) where
   abbrev now : List ℤ
   now = x ++ piece
 
@@ -206,68 +168,75 @@ module _ (line : HeldLine) (alone near : HeldList) (fixed : HeldFixed) (far a n 
       let more = length-append x piece in
       omega arith
 
-  pub row_at_end : AreAt to a n i f
-  row_at_end = all_at from to alone near fixed far a n i f row items at reach_to reads
+  pub row_at_end : AreAt to new
+  row_at_end = all_at from to old new row items at reach_to reads
 
   were : (held : HeldList) → held.ring.place ≡ from → HasRead held x → HasRead held now
-  were held is old = list_read-append x piece held is old
+  were held is before = list_read-append x piece held is before
 
-  fixed_were : FixedHasRead fixed now
-  fixed_were = fixed_read-append x piece fixed at.fixed_place read.fixed_read
+  fixed_were : FixedHasRead old.fixed now
+  fixed_were = fixed_read-append x piece old.fixed at.fixed_place read.fixed_read
 
-  pub row_read : HaveRead a n i f now
+  fast_were : FastHasRead old.fast now
+  fast_were = fast_read-append x piece old.fast at.fast_place read.fast_read
+
+  pub row_read : HaveRead new now
   row_read = record {
-    alone_read = reads.short_read.alone_reads.read now (row_at alone.ring.place at.alone_place)
-        (were alone at.alone_place read.alone_read);
-    near_read = reads.short_read.near_reads.read now (row_at near.ring.place at.near_place)
-        (were near at.near_place read.near_read);
-    fixed_read = reads.all_far_read.fixed_reads.read now (row_at fixed.place at.fixed_place) fixed_were;
-    far_read = reads.all_far_read.far_reads.read now (row_at far.ring.place at.far_place)
-        (were far at.far_place read.far_read);
+    fixed_read = reads.fixed_reads.read now (row_at old.fixed.place at.fixed_place) fixed_were;
+    near_read = reads.near_reads.read now (row_at old.near.ring.place at.near_place)
+        (were old.near at.near_place read.near_read);
+    far_read = reads.far_reads.read now (row_at old.far.ring.place at.far_place)
+        (were old.far at.far_place read.far_read);
+    fast_read = reads.fast_reads.read now (row_at old.fast.ring.place at.fast_place) fast_were;
+    alone_read = reads.alone_reads.read now (row_at old.alone.ring.place at.alone_place)
+        (were old.alone at.alone_place read.alone_read);
   }
 
   list_found : (reach : Reach) (was held : HeldList) (heard : List Candidate) → ReadsLine was held row heard
       → was.ring.place ≡ from → was.ring.reach ≡ reach → held.ring.place ≡ to → HasRead was x
       → AreAddedIn reach from to now heard
-  list_found reach was held heard line_read place_is list_is end_is old =
+  list_found reach was held heard line_read place_is list_is end_is before =
       subst (λ r. AreAddedIn r from to now heard) list_is
       (subst (λ p. AreAddedIn was.ring.reach p to now heard) place_is
       (subst (λ p. AreAddedIn was.ring.reach was.ring.place p now heard) end_is
-      (line_read.found now (row_at was.ring.place place_is) (were was place_is old))))
+      (line_read.found now (row_at was.ring.place place_is) (were was place_is before))))
 
-  fixed_found : i.place ≡ to
-      → AreAddedWhere (λ p l. ((from ≤ p) × (p < to)) × (l < 16)) now reads.all_far_read.fixed_heard
-  fixed_found end_is =
-      let heard : List Candidate = reads.all_far_read.fixed_heard in
-      let Found : ℕ → ℕ → Type 0 = λ low high. AreAddedWhere (λ p l. ((low ≤ p) × (p < high)) × (l < 16)) now heard in
-      subst (λ p. Found p to) at.fixed_place
-      (subst (λ p. Found fixed.place p) end_is
-      (reads.all_far_read.fixed_reads.found now (row_at fixed.place at.fixed_place) fixed_were))
+  -- what lanes of some kind find, by where their bank was and is
+  kind_found : (Kind : ℕ → Type 0) (was is : ℕ) (heard : List Candidate) → was ≡ from → is ≡ to
+      → AreAddedWhere (λ p l. ((was ≤ p) × (p < is)) × Kind l) now heard
+      → AreAddedWhere (λ p l. ((from ≤ p) × (p < to)) × Kind l) now heard
+  kind_found Kind was is heard start end found =
+      let Found : ℕ → ℕ → Type 0 = λ low high. AreAddedWhere (λ p l. ((low ≤ p) × (p < high)) × Kind l) now heard in
+      subst (λ p. Found p to) start (subst (Found was) end found)
 
   pub row_found : AreAddedBetween from to now items
   row_found =
       let end = row_at_end in
-      let l = reads.short_read in
-      let h = reads.all_far_read in
-      subst (AreAddedBetween from to now) (sym (all_joined alone near fixed far a n i f row items reads))
-      (banks_join from to now l.alone_heard l.near_heard h.fixed_heard h.far_heard
-      (list_found Alone alone a l.alone_heard l.alone_reads at.alone_place at.alone_list end.alone_place read.alone_read)
-      (list_found Near near n l.near_heard l.near_reads at.near_place at.near_list end.near_place read.near_read)
-      (fixed_found end.fixed_place)
-      (list_found Far far f h.far_heard h.far_reads at.far_place at.far_list end.far_place read.far_read))
+      subst (AreAddedBetween from to now) (sym reads.joined)
+      (banks_join from to now reads.fixed_heard reads.near_heard reads.far_heard reads.fast_heard reads.alone_heard
+      (kind_found (λ l. l < 16) old.fixed.place new.fixed.place reads.fixed_heard at.fixed_place end.fixed_place
+      (reads.fixed_reads.found now (row_at old.fixed.place at.fixed_place) fixed_were))
+      (list_found Near old.near new.near reads.near_heard reads.near_reads at.near_place at.near_list end.near_place
+      read.near_read)
+      (list_found Far old.far new.far reads.far_heard reads.far_reads at.far_place at.far_list end.far_place
+      read.far_read)
+      (kind_found (λ l. l ≡ 22) old.fast.ring.place new.fast.ring.place reads.fast_heard at.fast_place end.fast_place
+      (reads.fast_reads.found now (row_at old.fast.ring.place at.fast_place) fast_were))
+      (list_found Alone old.alone new.alone reads.alone_heard reads.alone_reads at.alone_place at.alone_list
+      end.alone_place read.alone_read))
 
 -- the line that a piece makes is read
-piece_fed : (old line : HeldLine) (alone near : HeldList) (fixed : HeldFixed) (far a n : HeldList) (i : HeldFixed) (f : HeldList) (row : List PlaceTones) (piece : List ℤ)
+piece_fed : (old line : HeldLine) (was banks : HeldBanks) (row : List PlaceTones) (piece : List ℤ)
     (items : List Candidate) (x : List ℤ)
     → ((y : List ℤ) → LineHasTaken old y → LineHasTaken line (y ++ piece))
     → line.first ≡ decided_in old.count
     → ((y : List ℤ) → LineHasTaken line y → AreTonesOf line.first row y)
     → line.first + length row ≡ decided_in line.count
-    → AllReadLine alone near fixed far a n i f row items
-    → StandsFor (bank_of old alone near fixed far) x
-    → StandsFor (bank_of line a n i f) (x ++ piece)
+    → AllReadLine was banks row items
+    → StandsFor (bank_of old was) x
+    → StandsFor (bank_of line banks) (x ++ piece)
     × AreAddedBetween (added_places (length x)) (added_places (length (x ++ piece))) (x ++ piece) items
-piece_fed old line alone near fixed far a n i f row piece items x stands first are size reads h =
+piece_fed old line was banks row piece items x stands first are size reads h =
     let taken = stands x h.line in
     let count = h.line.count in
     let here : line.first ≡ added_places (length x) = omega arith in
@@ -275,52 +244,44 @@ piece_fed old line alone near fixed far a n i f row piece items x stands first a
       record {
         position = taken.count;
         line = taken;
-        at = row_at_end line alone near fixed far a n i f row piece items x here taken row_are size reads h.at h.read;
-        read = row_read line alone near fixed far a n i f row piece items x here taken row_are size reads h.at h.read;
+        at = row_at_end line was banks row piece items x here taken row_are size reads h.at h.read;
+        read = row_read line was banks row piece items x here taken row_are size reads h.at h.read;
       },
-      row_found line alone near fixed far a n i f row piece items x here taken row_are size reads h.at h.read,
+      row_found line was banks row piece items x here taken row_are size reads h.at h.read,
     )
-
--- where the banks are then
-piece_at : (old line : HeldLine) (alone near : HeldList) (fixed : HeldFixed) (far a n : HeldList) (i : HeldFixed) (f : HeldList) (row : List PlaceTones) (piece : List ℤ)
-    (items : List Candidate)
-    → line.count ≡ old.count + length piece → line.first ≡ decided_in old.count
-    → line.first + length row ≡ decided_in line.count → AllReadLine alone near fixed far a n i f row items
-    → AreAt (decided_in old.count) alone near fixed far → AreAt (decided_in line.count) a n i f
-piece_at old line alone near fixed far a n i f row piece items count first size reads at =
-    all_at (decided_in old.count) (decided_in line.count) alone near fixed far a n i f row items at (omega arith) reads
 
 -- ---- piece after piece
 
 -- what was found so far of a block, and where the banks are then
 pub record HasFed (initial later : HeldBank) (done : List ℤ) (items : List Candidate) : Type 0 where
   pub heard : HearsBlock initial later done items
-  pub at : AreAt (decided_in later.line.count) later.alone later.near later.fixed later.far
+  pub at : AreAt (decided_in later.line.count) later.banks
 
 -- the line that a piece makes is read, so the piece is heard
-pub piece_heard : (old line : HeldLine) (alone near : HeldList) (fixed : HeldFixed) (far a n : HeldList) (i : HeldFixed) (f : HeldList) (row : List PlaceTones) (piece : List ℤ)
+pub piece_heard : (old line : HeldLine) (was banks : HeldBanks) (row : List PlaceTones) (piece : List ℤ)
     (items : List Candidate)
     → LineTakesBlock old line piece
     → ((y : List ℤ) → LineHasTaken line y → AreTonesOf line.first row y)
     → line.first + length row ≡ decided_in line.count
-    → AllReadLine alone near fixed far a n i f row items
-    → AreAt (decided_in old.count) alone near fixed far
-    → HasFed (bank_of old alone near fixed far) (bank_of line a n i f) piece items
-piece_heard old line alone near fixed far a n i f row piece items takes are size reads at =
+    → AllReadLine was banks row items
+    → AreAt (decided_in old.count) was
+    → HasFed (bank_of old was) (bank_of line banks) piece items
+piece_heard old line was banks row piece items takes are size reads at =
     let low : ℕ = old.count - 32 in
-    let bounds = all_bounds (decided_in old.count) low alone near fixed far a n i f row items at (omega arith) reads in
+    let count = takes.count in
+    let first = takes.first in
+    let bounds = all_bounds (decided_in old.count) low was banks row items at (omega arith) reads in
     record {
       heard = record {
-        found = λ x h. piece_fed old line alone near fixed far a n i f row piece items x takes.has_taken takes.first are size
-            reads h;
+        found = λ x h. piece_fed old line was banks row piece items x takes.has_taken takes.first are size reads h;
         bounds = have_room low items bounds;
         late = are_late low items bounds;
         position = takes.count;
       };
-      at = piece_at old line alone near fixed far a n i f row piece items takes.count takes.first size reads at;
+      at = all_at (decided_in old.count) (decided_in line.count) was banks row items at (omega arith) reads;
     }
 
-pub fed_none : (initial : HeldBank) → AreAt (decided_in initial.line.count) initial.alone initial.near initial.fixed initial.far
+pub fed_none : (initial : HeldBank) → AreAt (decided_in initial.line.count) initial.banks
     → HasFed initial initial [] []
 fed_none initial at = record {
   heard = record {
@@ -375,3 +336,19 @@ fed_more initial was later done piece items more h next =
 pub all_done : (done rest block : List ℤ) → done ++ rest ≡ block → length rest ≡ 0 → done ≡ block
 all_done done [] block is none = sym (append-nil done) ∙ is
 all_done done (x ∷ rest) block is none = absurd (omega arith)
+
+-- each bank has room for the line of a piece
+pub row_room : (old line : HeldLine) (banks : HeldBanks) (row : List PlaceTones) (piece : List ℤ)
+    → LineTakesBlock old line piece → line.first + length row ≡ decided_in line.count
+    → old.count + length piece < 2 ^ 48 → AreAt (decided_in old.count) banks → HaveRoom (length row) banks
+row_room old line banks row piece takes size room at =
+    let count = takes.count in
+    let first = takes.first in
+    let here : (place : ℕ) → place ≡ decided_in old.count → place + length row < 2 ^ 48 = λ place is. omega arith in
+    record {
+      fixed = here banks.fixed.place at.fixed_place;
+      near = here banks.near.ring.place at.near_place;
+      far = here banks.far.ring.place at.far_place;
+      fast = here banks.fast.ring.place at.fast_place;
+      alone = here banks.alone.ring.place at.alone_place;
+    }

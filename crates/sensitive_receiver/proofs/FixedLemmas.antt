@@ -1,13 +1,11 @@
 -- What a lane at a fixed offset reads, and what it hears of some places.
-use Rattle.sensitive_receiver.proofs.Common.{◌≡◌, ◌≢◌, ℕ, zero, suc, ◌+◌, ◌-◌, ◌*◌, ◌/◌, ◌%◌, ◌<◌, ◌≤◌, ◌⊎◌, Bool, true, false}
+use Rattle.sensitive_receiver.proofs.Common.{◌≡◌, ℕ, zero, suc, ◌+◌, ◌-◌, ◌*◌, ◌/◌, ◌%◌, ◌<◌, ◌≤◌, true}
 use Rattle.sensitive_receiver.proofs.Common.{ℤ, List, [], ◌∷◌, ◌++◌, length, get_or, take, refl, ap, sym, subst, ◌∙◌, arith}
-use Rattle.sensitive_receiver.proofs.Common.{inl, inr, cases_lt, true≢false, eqb-true, append_assoc, append-nil, ◌==◌}
+use Rattle.sensitive_receiver.proofs.Common.{inl, inr, append_assoc, append-nil}
 use Rattle.sensitive_receiver.proofs.Common.{Tone, Candidate, EndsFrame, EndsAtPlace, HasPath, AddsAt, is_in_time, bits_of}
-use Rattle.sensitive_receiver.proofs.Common.{Far, tones, list_of, delay_of, is_read_at, tone_read, lane_tones, lane_bits}
+use Rattle.sensitive_receiver.proofs.Common.{Far, tones, delay_of, is_read_at, lane_tones, lane_bits}
 use Rattle.std.proofs.Common.{add-one}
 use Rattle.std.proofs.lemmas.List.{take_more}
-use Rattle.hdlc_framer.specs.Frames.{IsFrame}
-use Rattle.hdlc_framer.specs.Held.{HoldsFrame}
 use Rattle.slicer_bank.specs.ToneLanes.{HeldToneLane, ToneLaneStandsFor}
 use Rattle.tone_tracking.specs.declared.correlation.Correlations.{Correlations}
 use Rattle.tone_tracking.specs.declared.place_tones.PlaceTones.{PlaceTones}
@@ -18,7 +16,7 @@ use Rattle.tone_tracking.proofs.SlotLemmas.{tone_of_place}
 use Rattle.sensitive_receiver.specs.FixedLanes.{Reports}
 use Rattle.sensitive_receiver.specs.Hearing.{AreTonesOf}
 use Rattle.sensitive_receiver.specs.Found.{AddsWhere}
-use Rattle.sensitive_receiver.proofs.FoundLemmas.{adds_join, adds_none, adds_one}
+use Rattle.sensitive_receiver.proofs.FoundLemmas.{adds_none, adds_one}
 use Rattle.sensitive_receiver.proofs.FlagInTime.{fixed_next, fixed_rest, fixed_tone, fixed_turn, turn_reads}
 use Rattle.sensitive_receiver.proofs.LaneLemmas.{lane_tones-read}
 

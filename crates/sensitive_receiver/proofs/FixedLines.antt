@@ -1,5 +1,5 @@
 -- A lane at a fixed offset over a line of tones, stretch by stretch, and all of them lane by lane.
-use Rattle.sensitive_receiver.proofs.Common.{◌≡◌, ◌≢◌, ℕ, ◌+◌, ◌-◌, ◌*◌, ◌%◌, ◌<◌, ◌≤◌, ◌⊎◌, ℤ, List, [], ◌∷◌, ◌++◌, length}
+use Rattle.sensitive_receiver.proofs.Common.{◌≡◌, ℕ, ◌+◌, ◌-◌, ◌*◌, ◌%◌, ◌<◌, ◌≤◌, ℤ, List, [], ◌++◌, length}
 use Rattle.sensitive_receiver.proofs.Common.{get_or, set, take, refl, ap, sym, subst, ◌∙◌, arith, inl, inr, cases_lt, cases_eq}
 use Rattle.sensitive_receiver.proofs.Common.{Tone, Candidate, All, Far, tones, is_read_at, lane_tones, EndsAtPlace, HasRoomFrom}
 use Rattle.std.proofs.Common.{get_or-set_same, get_or-set_other}
@@ -7,7 +7,7 @@ use Rattle.std.proofs.lemmas.List.{get_or_default, take_all}
 use Rattle.slicer_bank.specs.ToneLanes.{HeldToneLane, ToneLaneStandsFor}
 use Rattle.tone_tracking.specs.declared.place_tones.PlaceTones.{PlaceTones}
 use Rattle.sensitive_receiver.specs.FixedLanes.{FixedReadsLine, LaneReads, LanesRead, TakesEight}
-use Rattle.sensitive_receiver.specs.Found.{AddsWhere, AreAddedWhere}
+use Rattle.sensitive_receiver.specs.Found.{AreAddedWhere}
 use Rattle.sensitive_receiver.specs.Hearing.{AreTonesOf}
 use Rattle.sensitive_receiver.proofs.FixedLemmas.{line_tone, quiet_eight, some_read}
 use Rattle.sensitive_receiver.proofs.FlagInTime.{fixed_rest, fixed_turn}

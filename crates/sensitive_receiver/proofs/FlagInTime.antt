@@ -1,6 +1,6 @@
 -- Lanes 8 to 15: each reads at every eighth place, so the flag that ends a frame of one of them is in time.
 use Rattle.sensitive_receiver.proofs.Common.{◌≡◌, ◌≢◌, ℕ, zero, suc, ◌+◌, ◌-◌, ◌%◌, ◌<◌, ◌≤◌, Bool, true, false, ℤ, List, [], ◌∷◌, ◌++◌}
-use Rattle.sensitive_receiver.proofs.Common.{length, get_or, ap, sym, refl, subst, ◌∙◌, arith, inl, inr, if◌then◌else◌, not, ◌&&◌, ◌==◌}
+use Rattle.sensitive_receiver.proofs.Common.{length, get_or, ap, sym, refl, ◌∙◌, arith, inl, inr, if◌then◌else◌, not, ◌&&◌, ◌==◌}
 use Rattle.sensitive_receiver.proofs.Common.{nat_lt, append_assoc, length-append, cases_lt, lt-ltb, eqb-true, true≢false}
 use Rattle.sensitive_receiver.proofs.Common.{Tone, Far, EndsFrame, bits_of, changes, is_in_time, is_read_at, lane_bits, lane_tones, readings_at}
 use Rattle.sensitive_receiver.proofs.Common.{delay_of, list_of, tone_before, tone_back, tone_read, tones}

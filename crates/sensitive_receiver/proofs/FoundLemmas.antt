@@ -3,7 +3,7 @@ use Rattle.sensitive_receiver.proofs.Common.{◌≡◌, ◌≢◌, ℕ, ◌+◌,
 use Rattle.sensitive_receiver.proofs.Common.{ap, sym, subst, ◌∙◌, arith, append_assoc, inl, inr, ◌⊎◌, All, cases_lt}
 use Rattle.sensitive_receiver.proofs.Common.{append-nil, All-nil, All-cons, All-append, Contains-append_left}
 use Rattle.sensitive_receiver.proofs.Common.{Contains-append_right, Candidate, standing, EndsFrame, AllPairs-append}
-use Rattle.sensitive_receiver.proofs.Common.{delay_of, lane_bits, EndsAtPlace, AddsAt, AddsIn, IsClockedOn, Reach}
+use Rattle.sensitive_receiver.proofs.Common.{delay_of, lane_bits, EndsAtPlace, AddsAt, AddsIn, IsSlowOn, Reach}
 use Rattle.sensitive_receiver.proofs.Common.{HasRoomFrom}
 use Rattle.sensitive_receiver.specs.Found.{AreAddedWhere, AddsWhere}
 
@@ -123,9 +123,9 @@ pub adds_next_places : (reach : Reach) (from middle to : ℕ) (x : List ℤ) (be
     → AddsIn reach from middle x before found → AddsIn reach middle to x found after
     → AddsIn reach from to x before after
 adds_next_places reach from middle to x before found after le le' a b =
-    adds_join (λ p l. ((from ≤ p) × (p < middle)) × IsClockedOn reach l)
-    (λ p l. ((middle ≤ p) × (p < to)) × IsClockedOn reach l)
-    (λ p l. ((from ≤ p) × (p < to)) × IsClockedOn reach l) x before found after a b
+    adds_join (λ p l. ((from ≤ p) × (p < middle)) × IsSlowOn reach l)
+    (λ p l. ((middle ≤ p) × (p < to)) × IsSlowOn reach l)
+    (λ p l. ((from ≤ p) × (p < to)) × IsSlowOn reach l) x before found after a b
     (λ p l h. ((h.0.0, (let high = h.0.1 in omega arith)), h.1))
     (λ p l h. (((let low = h.0.0 in omega arith), h.0.1), h.1))
     (λ p l h. elim (cases_lt p middle) [

@@ -8,6 +8,7 @@ pub mod PlaceLanes
 pub mod VisitedLanes
 pub mod FlagInTime
 pub mod ListLemmas
+pub mod FastLemmas
 pub mod BankLemmas
 pub mod PrefixLemmas
 pub mod LevelLemmas

@@ -1,9 +1,9 @@
 -- A bank of the lanes of a list with one place more, and with a line of them.
 use Rattle.sensitive_receiver.proofs.Common.{◌≡◌, ℕ, ◌+◌, ◌<◌, ◌≤◌, ℤ, List, [], ◌++◌, length, get_or, take, drop}
-use Rattle.sensitive_receiver.proofs.Common.{ap, sym, subst, ◌∙◌, arith, Tone, Candidate, Pull, Slow, Fast, Bool}
-use Rattle.sensitive_receiver.proofs.Common.{Near, clock_after, reads, tones, without_mean}
-use Rattle.sensitive_receiver.proofs.Common.{AddsIn, DecidedPlace, HasRead, HeldLane, HeldList, HeldRing}
-use Rattle.sensitive_receiver.proofs.Common.{IsClockedOn, IsLastPlace, LanesHaveRead, refl, suc}
+use Rattle.sensitive_receiver.proofs.Common.{ap, sym, subst, ◌∙◌, arith, Tone, Candidate, Pull, Slow, Bool}
+use Rattle.sensitive_receiver.proofs.Common.{clock_after, reads, tones, without_mean}
+use Rattle.sensitive_receiver.proofs.Common.{AddsIn, DecidedPlace, LanesHear, LanesAreAt, HasRead, HeldLane, HeldList, HeldRing}
+use Rattle.sensitive_receiver.proofs.Common.{IsSlowOn, IsLastPlace, LanesHaveRead, refl, suc}
 use Rattle.std.proofs.Math.Seq.{take-append_seam}
 use Rattle.tone_tracking.specs.declared.correlation.Correlations.{Correlations}
 use Rattle.tone_tracking.specs.declared.place_tones.PlaceTones.{PlaceTones}
@@ -17,9 +17,10 @@ use Rattle.sensitive_receiver.specs.Hearing.{AreTonesOf}
 use Rattle.tone_tracking.specs.HeldRing.{StandsFor as RingStandsFor}
 use Rattle.sensitive_receiver.proofs.FoundLemmas.{adds_none, adds_next_places}
 use Rattle.sensitive_receiver.proofs.ListNumbers.{told_is_read}
+use Rattle.sensitive_receiver.proofs.PlaceLanes.{adds_all, lanes_after, lanes_before}
 
-abbrev pub list_of_parts : HeldRing → Pull × Clock → Pull × Clock → List HeldLane → HeldList
-list_of_parts ring slow fast lanes = record { ring = ring; slow = slow; fast = fast; lanes = lanes }
+abbrev pub list_of_parts : HeldRing → Pull × Clock → List HeldLane → HeldList
+list_of_parts ring clock lanes = record { ring = ring; clock = clock; lanes = lanes }
 
 -- what was lent comes back as it was left
 pub given_back : {X : Type 0} (n : ℕ) (lanes before : List X) → n ≡ length lanes
@@ -28,77 +29,61 @@ given_back n lanes before full = ap (λ m. take m (lanes ++ drop (length lanes) 
     ∙ take-append_seam lanes (drop (length lanes) before)
 
 -- a clock that has taken the tones up to a place takes the tone there
-clock_next : (pull : Pull) (t : ℕ → Tone) (place : ℕ) (old : Clock) (tone : Tone) → old ≡ clock_after pull t place
+pub clock_next : (pull : Pull) (t : ℕ → Tone) (place : ℕ) (old : Clock) (tone : Tone) → old ≡ clock_after pull t place
     → tone ≡ t place → next_clock pull old tone ≡ clock_after pull t (place + 1)
 unfolding clock_after
 clock_next pull t place old tone is tone_is =
     (λ i. next_clock pull (is i) (tone_is i)) ∙ ap (clock_after pull t) (let e : suc place ≡ place + 1 = omega arith in e)
 
 -- a place is decided
-module _ (was ring : HeldRing) (slow fast slow_now fast_now : Pull × Clock) (lanes now : List HeldLane)
-    (tone : Tone) (p q : Bool) (place : ℕ) (x : List ℤ)
-    (h : HasRead (list_of_parts was slow fast lanes) x)
+module _ (was ring : HeldRing) (clock clock_now : Pull × Clock) (lanes now : List HeldLane)
+    (tone : Tone) (p : Bool) (place : ℕ) (x : List ℤ)
+    (h : HasRead (list_of_parts was clock lanes) x)
     (at_place : was.place ≡ place)
     (tone_here : tone ≡ tones was.reach x was.place)
     (push : (windows : ℕ → Correlations) → RingStandsFor was windows → tone ≡ tone_at was.reach windows was.place
     → RingStandsFor ring windows)
     (reach_is : ring.reach ≡ was.reach) (place_is : ring.place ≡ was.place + 1)
-    (slow_pull : slow.0 ≡ Slow) (fast_pull : fast.0 ≡ Fast)
-    (slow_next : slow_now.1 ≡ next_clock slow.0 slow.1 tone) (slow_reads : p ≡ reads slow.1)
-    (fast_next : was.reach ≡ Near → (fast_now.1 ≡ next_clock fast.0 fast.1 tone) × (q ≡ reads fast.1)) where
+    (pull : clock.0 ≡ Slow)
+    (next : clock_now.1 ≡ next_clock clock.0 clock.1 tone) (reading : p ≡ reads clock.1)
+    (found after : List Candidate) where
   abbrev pub at : DecidedPlace
-  at = record { place = place; slow = p; fast = q }
-
-  slow_told : p ≡ is_reading Slow (tones ring.reach x) place
-  slow_told = slow_reads ∙ ap reads h.slow
-      ∙ (λ i. is_reading Slow (tones (sym reach_is i) x) (at_place i))
-
-  fast_told : ring.reach ≡ Near → q ≡ is_reading Fast (tones Near x) place
-  fast_told near =
-      let same = sym reach_is ∙ near in
-      (fast_next same).1 ∙ ap reads (h.fast same) ∙ ap (is_reading Fast (tones Near x)) at_place
+  at = record { place = place; reads = p }
 
   last_place : IsLastPlace ring at x
   last_place = record {
     decided = push (correlations (without_mean x)) h.decided tone_here;
     last = place_is ∙ ap (λ n. n + 1) at_place;
-    told = told_is_read x ring.reach at slow_told fast_told;
+    told = told_is_read x ring.reach at (reading ∙ ap reads h.clock
+        ∙ (λ i. is_reading Slow (tones (sym reach_is i) x) (at_place i)));
   }
 
   -- the lanes had read all places before it
-  lanes_were : LanesHaveRead ring.reach lanes place x
-  lanes_were = subst (λ r. LanesHaveRead r lanes place x) (sym reach_is)
-      (subst (λ n. LanesHaveRead was.reach lanes n x) at_place h.lanes)
+  lanes_were : LanesAreAt ring.reach 0 lanes place x
+  lanes_were = lanes_before ring.reach x place lanes (subst (λ r. LanesHaveRead r lanes place x) (sym reach_is)
+      (subst (λ n. LanesHaveRead was.reach lanes n x) at_place h.lanes))
 
   -- the bank has read the place if its lanes have
-  pub taken_place : (IsLastPlace ring at x → LanesHaveRead ring.reach lanes place x
-      → LanesHaveRead ring.reach now (place + 1) x)
-      → HasRead (list_of_parts ring slow_now fast_now now) x
-  taken_place read =
-      let next : place + 1 ≡ ring.place = omega arith in
+  pub taken_place : LanesHear 0 3 ring at lanes now found after → HasRead (list_of_parts ring clock_now now) x
+  taken_place hear =
+      let end : place + 1 ≡ ring.place = omega arith in
       let here : was.place + 1 ≡ ring.place = sym place_is in
       record {
         decided = last_place.decided;
-        slow = slow_next ∙ ap (λ w. next_clock w slow.1 tone) slow_pull
-            ∙ clock_next Slow (tones was.reach x) was.place slow.1 tone h.slow tone_here
+        clock = next ∙ ap (λ w. next_clock w clock.1 tone) pull
+            ∙ clock_next Slow (tones was.reach x) was.place clock.1 tone h.clock tone_here
             ∙ (λ i. clock_after Slow (tones (sym reach_is i) x) (here i));
-        fast = λ near.
-            let same = sym reach_is ∙ near in
-            (fast_next same).0 ∙ ap (λ w. next_clock w fast.1 tone) fast_pull
-            ∙ clock_next Fast (tones Near x) was.place fast.1 tone (h.fast same)
-            (tone_here ∙ ap (λ r. tones r x was.place) same)
-            ∙ ap (clock_after Fast (tones Near x)) here;
-        lanes = subst (λ n. LanesHaveRead ring.reach now n x) next (read last_place lanes_were);
+        lanes = subst (λ n. LanesHaveRead ring.reach now n x) end
+            (lanes_after ring.reach x place 3 now refl (hear.read x last_place lanes_were));
       }
 
   -- and what they hear there is what is added
-  pub found_place : (found after : List Candidate)
-      → (IsLastPlace ring at x → LanesHaveRead ring.reach lanes place x
-      → AddsIn ring.reach place (place + 1) x found after)
+  pub found_place : LanesHear 0 3 ring at lanes now found after
       → AddsIn was.reach was.place (was.place + 1) x found after
-  found_place found after adds =
+  found_place hear =
       subst (λ r. AddsIn r was.place (was.place + 1) x found after) reach_is
-      (subst (λ p. AddsIn ring.reach p (p + 1) x found after) (sym at_place) (adds last_place lanes_were))
+      (subst (λ p. AddsIn ring.reach p (p + 1) x found after) (sym at_place)
+      (adds_all ring.reach place x 3 found after refl (hear.found x last_place lanes_were)))
 
 -- ---- a line of tones
 
@@ -117,7 +102,7 @@ fed_none initial line =
       place = omega arith;
       reach = refl;
       read = λ x are h. h;
-      found = λ x are h. adds_none (λ p l. ((at ≤ p) × (p < at)) × IsClockedOn initial.ring.reach l) x []
+      found = λ x are h. adds_none (λ p l. ((at ≤ p) × (p < at)) × IsSlowOn initial.ring.reach l) x []
           (λ item place of ends. let low = of.0.0 in let high = of.0.1 in absurd (omega arith));
     }
 

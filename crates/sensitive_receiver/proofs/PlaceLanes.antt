@@ -1,16 +1,15 @@
 -- The lanes of a list at one place: which of them read, and what they have read once some of them have.
-use Rattle.sensitive_receiver.proofs.Common.{◌≡◌, ◌≢◌, ℕ, ◌+◌, ◌-◌, ◌%◌, ◌<◌, ◌≤◌, true, false, ℤ, List, length, get_or}
-use Rattle.sensitive_receiver.proofs.Common.{set, ap, sym, subst, ◌∙◌, arith, inl, inr, nat_lt, if◌then◌else◌, ◌==◌}
-use Rattle.sensitive_receiver.proofs.Common.{cases_lt, cases_eq, lt-ltb, eqb-true, true≢false, Candidate, DecidedPlace}
-use Rattle.sensitive_receiver.proofs.Common.{EndsAtPlace, AddsAmong, AddsAt, AddsIn, HeldLane, HeldRing, IsLastPlace}
-use Rattle.sensitive_receiver.proofs.Common.{LaneStandsFor, LanesAreAt, LanesHaveRead, Reach, Far, is_read_at, is_told}
-use Rattle.sensitive_receiver.proofs.Common.{IsClockedOn, lane_of, lane_tones, lanes_in}
+use Rattle.sensitive_receiver.proofs.Common.{◌≡◌, ◌≢◌, ℕ, ◌+◌, ◌-◌, ◌<◌, ◌≤◌, false, ℤ, List, length, get_or}
+use Rattle.sensitive_receiver.proofs.Common.{set, ap, sym, subst, ◌∙◌, arith, inl, inr, if◌then◌else◌}
+use Rattle.sensitive_receiver.proofs.Common.{cases_lt, cases_eq, lt-ltb, true≢false, Candidate, DecidedPlace}
+use Rattle.sensitive_receiver.proofs.Common.{AddsAmong, AddsAt, AddsIn, HeldLane, HeldRing, IsLastPlace}
+use Rattle.sensitive_receiver.proofs.Common.{LaneStandsFor, LanesAreAt, LanesHaveRead, Reach, is_read_at}
+use Rattle.sensitive_receiver.proofs.Common.{first_slow, lane_of, lane_tones}
 use Rattle.std.proofs.Common.{get_or-set_same, get_or-set_other}
-use Rattle.std.proofs.lemmas.Bool.{le-ltb, ne_eqb}
+use Rattle.std.proofs.lemmas.Bool.{le-ltb}
 use Rattle.sensitive_receiver.specs.HeldList.{places_read}
 use Rattle.sensitive_receiver.proofs.FoundLemmas.{adds_join, adds_none}
 use Rattle.sensitive_receiver.proofs.LaneLemmas.{lane_tones-not}
-use Rattle.sensitive_receiver.proofs.ListNumbers.{lane_of-clocked, lane_of-rises, lane_among}
 
 -- ---- how many places they have read
 
@@ -43,20 +42,20 @@ module _ (reach : Reach) (x : List ℤ) where
   before_lanes place lanes h k d m = subst (At k (get_or lanes k d)) (places_read-from 0 place k (omega arith)) (h k d m)
 
   -- after each of them has
-  pub lanes_after : (place end : ℕ) (lanes : List HeldLane) → end ≡ lanes_in reach → LanesAreAt reach end lanes place x
+  pub lanes_after : (place end : ℕ) (lanes : List HeldLane) → end ≡ 3 → LanesAreAt reach end lanes place x
       → LanesHaveRead reach lanes (place + 1) x
   lanes_after place end lanes all h k d m = subst (At k (get_or lanes k d))
       (places_read-below end place k (omega arith)) (h k d m)
 
   -- the next lane has not read yet
-  pub lane_before : (place n : ℕ) (lanes : List HeldLane) (was : HeldLane) → n < lanes_in reach
+  pub lane_before : (place n : ℕ) (lanes : List HeldLane) (was : HeldLane) → n < 3
       → LanesAreAt reach n lanes place x → At n (get_or lanes n was) place
   lane_before place n lanes was l h = subst (At n (get_or lanes n was)) (places_read-from n place n (omega arith))
       (h n was l)
 
   -- the next lane reads
-  pub lane_read : (place n : ℕ) (lanes : List HeldLane) (was lane : HeldLane) → length lanes ≡ lanes_in reach
-      → n < lanes_in reach
+  pub lane_read : (place n : ℕ) (lanes : List HeldLane) (was lane : HeldLane) → length lanes ≡ 3
+      → n < 3
       → (At n (get_or lanes n was) place → At n lane (place + 1))
       → LanesAreAt reach n lanes place x → LanesAreAt reach (n + 1) (set lanes n lane) place x
   lane_read place n lanes was lane size l reads h k d m = elim (cases_eq k n) [
@@ -70,13 +69,13 @@ module _ (reach : Reach) (x : List ℤ) where
 
 -- lanes that do not read at the place
 module _ (ring : HeldRing) (at : DecidedPlace) (first end : ℕ) (lanes : List HeldLane) (x : List ℤ)
-    (le : first ≤ end) (few : end ≤ lanes_in ring.reach) (last : IsLastPlace ring at x)
-    (not_read : (k : ℕ) → first ≤ k → k < end → is_told (lane_of ring.reach k) at ≡ false) where
+    (le : first ≤ end) (few : end ≤ 3) (last : IsLastPlace ring at x)
+    (not_read : at.reads ≡ false) where
   abbrev reach : Reach
   reach = ring.reach
 
   silent : (k : ℕ) → first ≤ k → k < end → is_read_at x (lane_of reach k) at.place ≡ false
-  silent k least small = sym (last.told (lane_of reach k) (lane_of-clocked reach k (omega arith))) ∙ not_read k least small
+  silent k least small = sym (last.told (lane_of reach k) (omega arith, omega arith)) ∙ not_read
 
   pub lanes_silent : LanesAreAt reach first lanes at.place x → LanesAreAt reach end lanes at.place x
   lanes_silent h k d m = elim (cases_lt k first) [
@@ -114,7 +113,7 @@ module _ (reach : Reach) (place : ℕ) (x : List ℤ) where
 
   -- what some lanes add, and what those after them add
   pub adds_join_among : (first middle end : ℕ) (before found after : List Candidate) → first ≤ middle → middle ≤ end
-      → end ≤ lanes_in reach
+      → end ≤ 3
       → AddsAmong reach place first middle x before found → AddsAmong reach place middle end x found after
       → AddsAmong reach place first end x before after
   adds_join_among first middle end before found after le le' few a b =
@@ -129,13 +128,12 @@ module _ (reach : Reach) (place : ℕ) (x : List ℤ) where
       let small = h.1.2 in
       let large = k.1.1 in
       let inside = k.1.2 in
-      let rises = lane_of-rises reach h.1.0 k.1.0 (omega arith) (omega arith) in
       let same = h.1.3 in
       let other = k.1.3 in
       omega arith)
 
   -- what some lanes add, and what the lane after them adds
-  pub adds_next_among : (first n : ℕ) (before found after : List Candidate) → first ≤ n → n < lanes_in reach
+  pub adds_next_among : (first n : ℕ) (before found after : List Candidate) → first ≤ n → n < 3
       → AddsAmong reach place first n x before found → AddsAt place (lane_of reach n) x found after
       → AddsAmong reach place first (n + 1) x before after
   adds_next_among first n before found after le few a b =
@@ -156,7 +154,7 @@ module _ (reach : Reach) (place : ℕ) (x : List ℤ) where
       })
 
   -- what all of them add
-  pub adds_all : (end : ℕ) (before after : List Candidate) → end ≡ lanes_in reach
+  pub adds_all : (end : ℕ) (before after : List Candidate) → end ≡ 3
       → AddsAmong reach place 0 end x before after
       → AddsIn reach place (place + 1) x before after
   adds_all end before after all a = record {
@@ -170,17 +168,17 @@ module _ (reach : Reach) (place : ℕ) (x : List ℤ) where
             e.0,
             (
               (omega arith, omega arith),
-              subst (IsClockedOn reach) (sym e.1.1.3) (lane_of-clocked reach e.1.1.0 (omega arith)),
+              (let is = e.1.1.3 in (omega arith, omega arith)),
             ),
             e.2,
           );
       whole = λ item p of ends.
           let low = of.0.0 in
           let high = of.0.1 in
-          let lane = lane_among reach item.offset ends.most of.1 in
-          let small = lane.1 in
+          let least = of.1.0 in
+          let most = of.1.1 in
           let here : p ≡ place = omega arith in
-          a.are.whole item p (here, (lane.0, omega arith, omega arith, lane.2)) ends;
+          a.are.whole item p (here, (item.offset - first_slow reach, omega arith, omega arith, omega arith)) ends;
       apart = a.are.apart;
     };
   }

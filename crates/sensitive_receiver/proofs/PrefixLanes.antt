@@ -6,6 +6,7 @@ use Rattle.sensitive_receiver.proofs.Common.{reads, added_places, delay_of, list
 use Rattle.sensitive_receiver.proofs.Common.{is_read_at, readings_at, tone_back, lane_tones, EndsAtPlace, is_in_time}
 use Rattle.sensitive_receiver.proofs.Common.{HasRead, HeldList, LaneStandsFor, lane_of, places_in, without_mean}
 use Rattle.slicer_bank.specs.ToneLanes.{ToneLaneStandsFor}
+use Rattle.sensitive_receiver.specs.FastLane.{FastHasRead, HeldFast}
 use Rattle.sensitive_receiver.specs.FixedLanes.{FixedHasRead, HeldFixed}
 use Rattle.std.proofs.Common.{add-one}
 use Rattle.tone_tracking.specs.Correlation.{correlations}
@@ -104,13 +105,28 @@ module _ (x y : List ℤ) where
       record {
         decided = subst (λ levels. RingStandsFor held.ring (correlations levels)) (sym begins.1)
             (ring-append held.ring (without_mean x) begins.0 whole h.decided);
-        slow = h.slow ∙ clock-append x y Slow held.ring.reach place (omega arith);
-        fast = λ near. h.fast near ∙ clock-append x y Fast Near place (omega arith);
+        clock = h.clock ∙ clock-append x y Slow held.ring.reach place (omega arith);
         lanes = λ k d l. subst (λ tones. LaneStandsFor (get_or held.lanes k d) tones)
             (lane_tones-append (lane_of held.ring.reach k) place (omega arith)) (h.lanes k d l);
       }
 
-  -- so have the lanes at fixed offsets
+  -- so has the lane on the fast clock
+  pub fast_read-append : (held : HeldFast) → held.ring.place ≡ added_places (length x) → FastHasRead held x
+      → FastHasRead held (x ++ y)
+  fast_read-append held all h =
+      let place = held.ring.place in
+      let begins = without_mean_begins x y in
+      let size = length-without_mean x in
+      let whole : place ≡ places_in (length (without_mean x)) = omega arith in
+      record {
+        list = h.list;
+        decided = subst (λ levels. RingStandsFor held.ring (correlations levels)) (sym begins.1)
+            (ring-append held.ring (without_mean x) begins.0 whole h.decided);
+        clock = h.clock ∙ clock-append x y Fast Near place (omega arith);
+        lane = subst (LaneStandsFor held.lane) (lane_tones-append 22 place (omega arith)) h.lane;
+      }
+
+  -- and so have the lanes at fixed offsets
   pub fixed_read-append : (held : HeldFixed) → held.place ≡ added_places (length x) → FixedHasRead held x
       → FixedHasRead held (x ++ y)
   fixed_read-append held all h = record {

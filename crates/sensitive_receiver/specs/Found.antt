@@ -5,7 +5,7 @@ use Rattle.frame_merge.specs.declared.candidate.Candidate.{Candidate}
 use Rattle.frame_merge.specs.Order.{standing}
 use Rattle.tone_tracking.specs.declared.reach.Reach.{Reach}
 use Rattle.sensitive_receiver.specs.AddedCandidates.{EndsAtPlace}
-use Rattle.sensitive_receiver.specs.ListLanes.{IsClockedOn, lane_of}
+use Rattle.sensitive_receiver.specs.ListLanes.{IsSlowOn, lane_of}
 
 -- what may be put into a merger of 26 lanes
 pub record CanBePut (item : Candidate) : Type 0 where
@@ -48,19 +48,19 @@ pub record AddsWhere (Of : ℕ → ℕ → Type 0) (x : List ℤ) (before after 
 abbrev pub AddsAt : ℕ → ℕ → List ℤ → List Candidate → List Candidate → Type 0
 AddsAt place lane x before after = AddsWhere (λ p l. (p ≡ place) × (l ≡ lane)) x before after
 
--- at one place by the clocked lanes of a list, from one to below another in their order
+-- at one place by the lanes on the slow clock of a list, from one to below another in their order
 abbrev pub AddsAmong : Reach → ℕ → ℕ → ℕ → List ℤ → List Candidate → List Candidate → Type 0
 AddsAmong reach place from to x before after =
     AddsWhere (λ p l. (p ≡ place) × ((k : ℕ) × (from ≤ k) × (k < to) × (l ≡ lane_of reach k))) x before after
 
--- at the places from one to below another by the clocked lanes of a list
+-- at the places from one to below another by the lanes on the slow clock of a list
 abbrev pub AddsIn : Reach → ℕ → ℕ → List ℤ → List Candidate → List Candidate → Type 0
 AddsIn reach from to x before after =
-    AddsWhere (λ p l. ((from ≤ p) × (p < to)) × IsClockedOn reach l) x before after
+    AddsWhere (λ p l. ((from ≤ p) × (p < to)) × IsSlowOn reach l) x before after
 
 -- all items of these places and lanes
 abbrev pub AreAddedIn : Reach → ℕ → ℕ → List ℤ → List Candidate → Type 0
-AreAddedIn reach from to x items = AreAddedWhere (λ p l. ((from ≤ p) × (p < to)) × IsClockedOn reach l) x items
+AreAddedIn reach from to x items = AreAddedWhere (λ p l. ((from ≤ p) × (p < to)) × IsSlowOn reach l) x items
 
 -- all items of the places from one to below another
 abbrev pub AreAddedBetween : ℕ → ℕ → List ℤ → List Candidate → Type 0

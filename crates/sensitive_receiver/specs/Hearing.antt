@@ -1,4 +1,4 @@
--- What the lanes of a list hear when a place is decided.
+-- What the lanes on the slow clock of a list hear when a place is decided.
 use Rattle.std.specs.Prelude.{◌≡◌, ℕ, ◌+◌, ℤ, List, length}
 use Rattle.std.specs.List.{All}
 use Rattle.frame_merge.specs.declared.candidate.Candidate.{Candidate}

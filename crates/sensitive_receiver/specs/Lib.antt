@@ -6,9 +6,10 @@ pub mod MergedItems
 pub mod HeldLanes
 pub mod HeldList
 pub mod FixedLanes
+pub mod FastLane
 pub mod Found
 pub mod Hearing
-pub mod FourBanks
+pub mod FiveBanks
 pub mod HeldDecoder
 pub mod Stray
 pub mod LateLanes

@@ -1,19 +1,22 @@
 //! The eighteen lanes that are added to one for each offset of a bit.
 
-ghost use Rattle.std.specs.Prelude.{◌≡◌, ◌+◌, ◌<◌, ◌≤◌, ◌^◌, [], length, IfOk};
+ghost use Rattle.std.specs.Prelude.{◌≡◌, ◌+◌, ◌<◌, ◌^◌, [], length, IfOk, OnOk};
+ghost use Rattle.std.specs.List.{All};
+ghost use Rattle.slicer_bank.specs.Feeding.{FeedsBlock};
+ghost use Rattle.slicer_bank.specs.Merging.{AllPast, CanBePut};
 ghost use Rattle.sensitive_receiver.specs.HeardBlock.{HearsBlock};
 ghost use Rattle.sensitive_receiver.specs.HeldLanes.{StandsFor};
 
-use crate::fixed_bank::FixedBank;
-use crate::list_bank::ListBank;
-use crate::pieces::feed_block;
-use crate::reading::{InTurn, OnThreads, Reading};
+use crate::added_banks::AddedBanks;
+use crate::pieces::{feed_block, feed_block_beside};
+use crate::reading::Heard;
 use frame_merge::Candidate;
+use slicer_bank::Bank;
 use std::alloc::Global;
 use std::marker::Model;
 use std::thread::Threads;
 use tnc_base::OutOfMemory;
-use tone_tracking::{Reach, ToneLine};
+use tone_tracking::ToneLine;
 
 /// The most samples whose tones are decided at once, so that they are at hand when the lanes read them.
 const PIECE: usize = 2048;
@@ -21,37 +24,31 @@ const PIECE: usize = 2048;
 /// The fewest samples of a block of which each thread has more to do than it takes to start one.
 const LONG: usize = 16384;
 
-/// The tones of samples without their mean, and the four banks of lanes that read them: `new`, then `feed` for
+/// The tones of samples without their mean, and the five banks of lanes that read them: `new`, then `feed` for
 /// each block of samples. After want of memory it is spent: each later `feed` wants memory, too.
 #[derive(Drop)]
 pub struct AddedBank {
     alloc: Global,
     spent: bool,
     line: ToneLine,
-    alone: ListBank,
-    near: ListBank,
-    fixed: FixedBank,
-    far: ListBank,
+    banks: AddedBanks,
 }
 
 impl Model for AddedBank {
     ghost use Rattle.std.specs.Prelude.{◌≡◌, false};
     ghost use Rattle.tone_tracking.specs.HeldLine.{decided_in};
     ghost use Rattle.sensitive_receiver.specs.HeldLanes.{HeldBank};
-    ghost use Rattle.sensitive_receiver.specs.FourBanks.{AreAt};
+    ghost use Rattle.sensitive_receiver.specs.FiveBanks.{AreAt};
 
     ghost Value = { HeldBank };
 
     ghost view = { λ s. record {
       position = s.line.count;
       line = s.line;
-      alone = s.alone;
-      near = s.near;
-      fixed = s.fixed;
-      far = s.far;
+      banks = s.banks;
     } };
 
-    ghost invariant = { λ s. s.spent ≡ false → AreAt (decided_in s.line.count) s.alone s.near s.fixed s.far };
+    ghost invariant = { λ s. s.spent ≡ false → AreAt (decided_in s.line.count) s.banks };
 }
 
 impl AddedBank {
@@ -64,10 +61,7 @@ impl AddedBank {
             alloc,
             spent: false,
             line: ToneLine::new(alloc)?,
-            alone: ListBank::new(alloc, Reach::Alone)?,
-            near: ListBank::new(alloc, Reach::Near)?,
-            fixed: FixedBank::new(alloc)?,
-            far: ListBank::new(alloc, Reach::Far)?,
+            banks: AddedBanks::new(alloc)?,
         })
     }
 
@@ -76,53 +70,38 @@ impl AddedBank {
         requires { self.old.position + length block.now < 2 ^ 48 }
         ensures { IfOk result (λ found. HearsBlock self.old self.new block.now found.items) }
     {
-        self.feed_by(&InTurn, PIECE, block)
-    }
-
-    /// Does what [`AddedBank::feed`] does. If the block is long, the tones are decided and the lists read on threads, and
-    /// the block is one piece.
-    pub fn feed_threads<R: Threads + Sync>(
-        &mut self,
-        rt: &R,
-        block: &[i16],
-    ) -> Result<Vec<Candidate>, OutOfMemory>
-        requires { self.old.position + length block.now < 2 ^ 48 }
-        ensures { IfOk result (λ found. HearsBlock self.old self.new block.now found.items) }
-    {
-        if block.len() < LONG {
-            return self.feed(block);
-        }
-        self.feed_by(&OnThreads { rt }, block.len(), block)
-    }
-
-    /// Takes a block in pieces of a size, which are read in some way.
-    fn feed_by<W: Reading>(
-        &mut self,
-        way: &W,
-        size: usize,
-        block: &[i16],
-    ) -> Result<Vec<Candidate>, OutOfMemory>
-        requires can { W.can way.now }
-        requires size { 1 ≤ size }
-        requires room { self.old.position + length block.now < 2 ^ 48 }
-        ensures { IfOk result (λ found. HearsBlock self.old self.new block.now found.items) }
-    {
         if self.spent {
             return Err(OutOfMemory);
         }
         self.spent = true;
-        let found = feed_block(
-            way,
-            self.alloc,
-            size,
-            &mut self.line,
-            &mut self.alone,
-            &mut self.near,
-            &mut self.fixed,
-            &mut self.far,
-            block,
-        )?;
+        let found = feed_block(self.alloc, PIECE, &mut self.line, &mut self.banks, block)?;
         self.spent = false;
         Ok(found)
+    }
+
+    /// Does what [`AddedBank::feed`] does, and [`Bank::feed`] for eight plain lanes. If the block is long, the tones are decided
+    /// on threads, and then the banks of added lanes and the eight lanes share the machine.
+    pub fn feed_beside<R: Threads + Sync>(
+        &mut self,
+        rt: &R,
+        bank: &mut Bank,
+        block: &[i16],
+    ) -> (Heard, Heard)
+        requires room { self.old.position + length block.now < 2 ^ 48 }
+        requires bank { bank.old.position + length block.now < 2 ^ 48 }
+        ensures eight { IfOk result.0 (λ found. FeedsBlock bank.old bank.new block.now found.items) }
+        ensures eight_bounds { IfOk result.0 (λ found. All CanBePut found.items) }
+        ensures eight_past { IfOk result.0 (λ found. AllPast bank.old.position found.items) }
+        ensures eight_position { OnOk result.0 (bank.new.position ≡ bank.old.position + length block.now) }
+        ensures added { IfOk result.1 (λ found. HearsBlock self.old self.new block.now found.items) }
+    {
+        if self.spent || block.len() < LONG {
+            let found = bank.feed(block);
+            return (found, self.feed(block));
+        }
+        self.spent = true;
+        let (found, added) = feed_block_beside(rt, &mut self.line, &mut self.banks, bank, block);
+        self.spent = added.is_err();
+        (found, added)
     }
 }

@@ -3,7 +3,6 @@
 ghost use Rattle.std.specs.Prelude.{◌≡◌, ◌+◌, ◌<◌, ◌≤◌, ◌^◌, ℤ, List, [], ◌++◌, length, replicate, true, false, IfOk};
 ghost use Rattle.std.specs.Prelude.{OnOk, OnErr};
 ghost use Rattle.std.specs.List.{All};
-ghost use Rattle.std.specs.Thread.{IsSync};
 ghost use Rattle.slicer_bank.specs.Candidates.{AreCandidatesAfter};
 ghost use Rattle.slicer_bank.specs.Held.{HeldBank, StandsFor as BankStandsFor};
 ghost use Rattle.slicer_bank.specs.Merging.{CanBePut as CanBePutOfEight, AllPast};
@@ -21,7 +20,7 @@ use frame_merge::{Candidate, Merger};
 use slicer_bank::{Bank, Progress};
 use std::alloc::Global;
 use std::marker::Model;
-use std::thread::{Threads, join_mut};
+use std::thread::Threads;
 use tnc_base::OutOfMemory;
 
 /// The eight lanes of a [`Bank`], those of an [`AddedBank`], and a [`Merger`]: `new`, then `block` for each block of
@@ -88,8 +87,7 @@ impl SensitiveDecoder {
         self.settle(found, added, block.len())
     }
 
-    /// Does what [`SensitiveDecoder::block`] does, with the added lanes on threads as [`AddedBank::feed_threads`] has them,
-    /// beside the eight lanes, which share one: they have a fifth of the work.
+    /// Does what [`SensitiveDecoder::block`] does, with the lanes on threads as [`AddedBank::feed_beside`] has them.
     pub fn block_threads<R: Threads + Sync>(
         &mut self,
         rt: &R,
@@ -102,7 +100,7 @@ impl SensitiveDecoder {
         ensures progress { TakesBlock (progress self.old) (progress self.new) (length block.now) result }
     {
         self.progress.begin()?;
-        let (heard, heard_beside) = hear_beside(rt, &mut self.bank, &mut self.added, block);
+        let (heard, heard_beside) = self.added.feed_beside(rt, &mut self.bank, block);
         let found = heard?;
         let added = heard_beside?;
         self.settle(found, added, block.len())
@@ -168,39 +166,4 @@ impl SensitiveDecoder {
     {
         self.merger.held()
     }
-}
-
-/// What the eight lanes and the added ones hear in a block, the added ones on threads of their own.
-fn hear_beside<R: Threads + Sync>(
-    rt: &R,
-    bank: &mut Bank,
-    added: &mut AddedBank,
-    block: &[i16],
-) -> (
-    Result<Vec<Candidate>, OutOfMemory>,
-    Result<Vec<Candidate>, OutOfMemory>,
-)
-    requires bank { bank.old.position + length block.now < 2 ^ 48 }
-    requires added { added.old.position + length block.now < 2 ^ 48 }
-    ensures found { IfOk result.0 (λ found. (x : List ℤ) → BankStandsFor bank.old x
-        → BankStandsFor bank.new (x ++ block.now) × AreCandidatesAfter (length x) (x ++ block.now) found.items) }
-    ensures bounds { IfOk result.0 (λ found. All CanBePutOfEight found.items) }
-    ensures past { IfOk result.0 (λ found. AllPast bank.old.position found.items) }
-    ensures position { OnOk result.0 (bank.new.position ≡ bank.old.position + length block.now) }
-    ensures added { IfOk result.1 (λ found. (x : List ℤ) → AddedStandsFor added.old x
-        → AddedStandsFor added.new (x ++ block.now)
-        × AreAddedBetween (added_places (length x)) (added_places (length (x ++ block.now)))
-        (x ++ block.now) found.items) }
-    ensures added_bounds { IfOk result.1 (λ found. All HasRoom found.items) }
-    ensures late { IfOk result.1 (λ found. All (IsAddedFrom (settled added.old.position)) found.items) }
-    ensures added_position { OnOk result.1 (added.new.position ≡ added.old.position + length block.now) }
-{
-    let (heard_beside, heard) = join_mut(
-        rt,
-        &mut ||
-            requires { IsSync R.row × (added.now.position + length block.now < 2 ^ 48) }
-        { added.feed_threads(rt, block) },
-        &mut || bank.feed(block),
-    );
-    (heard, heard_beside)
 }

@@ -1,19 +1,19 @@
-//! What the clocked lanes of a list of tones hear when a place is decided.
+//! What the lanes that follow a clock on a list of tones hear when a place is decided.
 
-ghost use Rattle.std.specs.Prelude.{◌≡◌, true, ◌+◌, ◌-◌, ◌<◌, ◌≤◌, ◌^◌, ℕ, ℤ, List, length, OnOk};
+ghost use Rattle.std.specs.Prelude.{◌≡◌, true, ◌+◌, ◌<◌, ◌≤◌, ◌^◌, ℕ, ℤ, List, length, OnOk};
 ghost use Rattle.std.specs.List.{All};
 ghost use Rattle.hdlc_framer.specs.Frames.{IsFrame};
 ghost use Rattle.hdlc_framer.specs.Held.{HoldsFrame};
 ghost use Rattle.tone_table.specs.declared.tone.Tone.{Tone};
 ghost use Rattle.tone_tracking.specs.Clock.{changes};
 ghost use Rattle.sensitive_receiver.specs.AddedCandidates.{is_in_time};
-ghost use Rattle.sensitive_receiver.specs.Found.{AddsAt, AddsIn, HasRoomFrom};
+ghost use Rattle.sensitive_receiver.specs.Found.{AddsAt, HasRoomFrom};
 ghost use Rattle.sensitive_receiver.specs.HeldLanes.{HoldsFrameOf};
-ghost use Rattle.sensitive_receiver.specs.HeldList.{HasDecided, IsLastPlace, LanesHaveRead};
+ghost use Rattle.sensitive_receiver.specs.HeldList.{HasDecided, LastIsRead};
 ghost use Rattle.sensitive_receiver.specs.Hearing.{LanesHear};
 ghost use Rattle.sensitive_receiver.specs.Lanes.{delay_of, lane_bits, lane_tones, list_of};
 ghost use Rattle.sensitive_receiver.specs.LateLanes.{LaneStandsFor};
-ghost use Rattle.sensitive_receiver.specs.ListLanes.{is_told, lane_of, lanes_in};
+ghost use Rattle.sensitive_receiver.specs.ListLanes.{first_slow};
 
 use crate::added_lane::has_path;
 use crate::decided_place::DecidedPlace;
@@ -23,89 +23,35 @@ use frame_merge::Candidate;
 use std::alloc::Global;
 use tnc_base::{Octets, OutOfMemory};
 use tone_table::Tone;
-use tone_tracking::{Reach, ToneRing};
+use tone_tracking::ToneRing;
 
-/// Has each clocked lane of a list read its bit, if it reads one at the place that was decided last, and adds what they hear to
-/// `found`.
+/// Has the three lanes on the slow clock of a list, from the first on, read their bits if it says so, and adds what they hear
+/// to `found`. Each reads a place before the one before it.
 #[inline(always)]
-pub(crate) fn hear_place(
-    alloc: Global,
-    reach: Reach,
-    ring: &ToneRing,
-    lanes: &mut [LateLane],
-    at: &DecidedPlace,
-    found: &mut Vec<Candidate>,
-) -> Result<(), OutOfMemory>
-    requires reach { reach ≡ ring.now.reach }
-    requires lanes { length lanes.old ≡ lanes_in ring.now.reach }
-    requires room { ring.now.place < 2 ^ 49 }
-    requires place { at.now.place < 2 ^ 48 }
-    ensures lanes { length lanes.new ≡ lanes_in ring.now.reach }
-    ensures read { OnOk result ((x : List ℤ) → IsLastPlace ring.now at.now x
-        → LanesHaveRead ring.now.reach lanes.old at.now.place x
-        → LanesHaveRead ring.now.reach lanes.new (at.now.place + 1) x) }
-    ensures found { OnOk result ((x : List ℤ) → IsLastPlace ring.now at.now x
-        → LanesHaveRead ring.now.reach lanes.old at.now.place x
-        → AddsIn ring.now.reach at.now.place (at.now.place + 1) x found.old.items found.new.items) }
-    ensures bounds { (low : ℕ) → low ≤ at.now.place + 6
-        → OnOk result (All (HasRoomFrom low) found.old.items → All (HasRoomFrom low) found.new.items) }
-{
-    match reach {
-        Reach::Alone => hear_clocked(alloc, ring, lanes, 0, 3, 23, 0, at, found),
-        Reach::Near => {
-            hear_clocked(alloc, ring, lanes, 0, 3, 16, 0, at, found)?;
-            hear_clocked(alloc, ring, lanes, 3, 4, 22, 1, at, found)
-        }
-        Reach::Far => hear_clocked(alloc, ring, lanes, 0, 3, 19, 0, at, found),
-    }
-}
-
-/// Has some lanes of a list, from one to below another in their order, read their bits if the clock that they share says
-/// so. The first of them has a number and reads some places before the last one. Each of the others has the next number,
-/// and reads a place before the one before it.
-#[inline(always)]
-fn hear_clocked(
+pub(crate) fn hear_slow(
     alloc: Global,
     ring: &ToneRing,
     lanes: &mut [LateLane],
     first: u8,
-    end: u8,
-    number: u8,
-    delay: u8,
     at: &DecidedPlace,
     found: &mut Vec<Candidate>,
 ) -> Result<(), OutOfMemory>
-    requires lanes { length lanes.old ≡ lanes_in ring.now.reach }
-    requires range { (first < end) × (end ≤ lanes_in ring.now.reach) }
-    requires number { (16 ≤ number) × (number + (end - first) ≤ 26) }
-    requires few { delay + (end - first) ≤ 3 }
-    requires numbers { (k : ℕ) → first ≤ k → k < end → lane_of ring.now.reach k ≡ number + (k - first) }
-    requires clock { (j : ℕ) → j < end - first → is_told (number + j) at.now ≡ is_told number at.now }
-    requires list { (j : ℕ) → j < end - first → list_of (number + j) ≡ ring.now.reach }
-    requires delay { (j : ℕ) → j < end - first → delay_of (number + j) ≡ delay + j }
+    requires first { first ≡ first_slow ring.now.reach }
+    requires few { (16 ≤ first) × (first ≤ 23) }
+    requires lanes { length lanes.old ≡ 3 }
     requires room { ring.now.place < 2 ^ 49 }
     requires place { at.now.place < 2 ^ 48 }
-    ensures lanes { length lanes.new ≡ lanes_in ring.now.reach }
-    ensures hear { OnOk result (LanesHear first end ring.now at.now
-        lanes.old lanes.new found.old.items found.new.items) }
+    ensures lanes { length lanes.new ≡ 3 }
+    ensures hear { OnOk result (LanesHear 0 3 ring.now at.now lanes.old lanes.new found.old.items found.new.items) }
     ensures bounds { (low : ℕ) → low ≤ at.now.place + 6
         → OnOk result (All (HasRoomFrom low) found.old.items → All (HasRoomFrom low) found.new.items) }
 {
-    if !at.is_read_by(number) {
+    if !at.reads {
         return Ok(());
     }
-    for index in first..end {
+    for index in 0..3 {
         let lane = &mut lanes[usize::from(index)];
-        let further = index - first;
-        hear(
-            alloc,
-            ring,
-            lane,
-            number + further,
-            delay + further,
-            at,
-            found,
-        )?;
+        hear(alloc, ring, lane, first + index, index, at.place, found)?;
     }
     Ok(())
 }
@@ -113,36 +59,35 @@ fn hear_clocked(
 /// Has a lane read its bit at the place that was decided last, and adds the frame that ends with it. Its delay is handed
 /// in, since most callers know it when the program is built.
 #[inline(always)]
-fn hear(
+pub(crate) fn hear(
     alloc: Global,
     ring: &ToneRing,
     lane: &mut LateLane,
     number: u8,
     delay: u8,
-    at: &DecidedPlace,
+    place: u64,
     found: &mut Vec<Candidate>,
 ) -> Result<(), OutOfMemory>
     requires number { (16 ≤ number) × (number < 26) }
     requires list { list_of number ≡ ring.now.reach }
     requires delay { delay ≡ delay_of number }
     requires few { delay ≤ 2 }
-    requires reads { is_told number at.now ≡ true }
     requires room { ring.now.place < 2 ^ 49 }
-    requires place { at.now.place < 2 ^ 48 }
-    ensures read { (x : List ℤ) → IsLastPlace ring.now at.now x
-        → LaneStandsFor lane.old (lane_tones x number at.now.place)
-        → LaneStandsFor lane.new (lane_tones x number (at.now.place + 1)) }
-    ensures found { OnOk result ((x : List ℤ) → IsLastPlace ring.now at.now x
-        → LaneStandsFor lane.old (lane_tones x number at.now.place)
-        → AddsAt at.now.place number x found.old.items found.new.items) }
-    ensures bounds { (low : ℕ) → low ≤ at.now.place + 6
+    requires place { place < 2 ^ 48 }
+    ensures read { (x : List ℤ) → LastIsRead ring.now number place x
+        → LaneStandsFor lane.old (lane_tones x number place)
+        → LaneStandsFor lane.new (lane_tones x number (place + 1)) }
+    ensures found { OnOk result ((x : List ℤ) → LastIsRead ring.now number place x
+        → LaneStandsFor lane.old (lane_tones x number place)
+        → AddsAt place number x found.old.items found.new.items) }
+    ensures bounds { (low : ℕ) → low ≤ place + 6
         → OnOk result (All (HasRoomFrom low) found.old.items → All (HasRoomFrom low) found.new.items) }
 {
     let tone = ring.tone_before(delay);
     if !lane.push(tone) {
         return Ok(());
     }
-    add_frame(alloc, ring, lane, number, at, found)
+    add_frame(alloc, ring, lane, number, place, found)
 }
 
 /// Adds the frame that ends with the bit that a lane read last, if it begins with a path and its flag is in time. Few
@@ -154,19 +99,18 @@ fn add_frame(
     ring: &ToneRing,
     lane: &LateLane,
     number: u8,
-    at: &DecidedPlace,
+    place: u64,
     found: &mut Vec<Candidate>,
 ) -> Result<(), OutOfMemory>
     requires number { (16 ≤ number) × (number < 26) }
     requires list { list_of number ≡ ring.now.reach }
-    requires reads { is_told number at.now ≡ true }
     requires holds { (octets : List ℕ) × IsFrame octets × HoldsFrame lane.now.deframer octets }
     requires room { ring.now.place < 2 ^ 49 }
-    requires place { at.now.place < 2 ^ 48 }
-    ensures found { OnOk result ((x : List ℤ) → IsLastPlace ring.now at.now x
-        → HoldsFrameOf lane.now (lane_bits x number (at.now.place + 1))
-        → AddsAt at.now.place number x found.old.items found.new.items) }
-    ensures bounds { (low : ℕ) → low ≤ at.now.place + 6
+    requires place { place < 2 ^ 48 }
+    ensures found { OnOk result ((x : List ℤ) → LastIsRead ring.now number place x
+        → HoldsFrameOf lane.now (lane_bits x number (place + 1))
+        → AddsAt place number x found.old.items found.new.items) }
+    ensures bounds { (low : ℕ) → low ≤ place + 6
         → OnOk result (All (HasRoomFrom low) found.old.items → All (HasRoomFrom low) found.new.items) }
 {
     if !ends_in_time(ring, number) {
@@ -177,7 +121,7 @@ fn add_frame(
     }
     let octets = Octets::from_slice(alloc, lane.octets())?;
     found.push(Candidate {
-        end: at.place + 8 - u64::from(delay_of(number)),
+        end: place + 8 - u64::from(delay_of(number)),
         offset: number,
         octets,
     })?;

@@ -2,7 +2,7 @@
 
 ghost use Rattle.std.specs.Prelude.{◌≡◌, ◌<◌, ◌≤◌};
 ghost use Rattle.sensitive_receiver.specs.Lanes.{delay_of};
-ghost use Rattle.sensitive_receiver.specs.ListLanes.{lanes_in};
+ghost use Rattle.sensitive_receiver.specs.ListLanes.{first_slow};
 
 use tone_tracking::Reach;
 
@@ -31,12 +31,14 @@ pub fn delay_of(lane: u8) -> u8
     }
 }
 
-/// How many lanes follow a clock on a list.
-pub(crate) fn lanes_in(reach: Reach) -> u64
-    ensures { result ≡ lanes_in reach }
+/// The first of the three lanes on the slow clock of a list.
+pub(crate) fn first_slow(reach: Reach) -> u8
+    ensures lane { result ≡ first_slow reach }
+    ensures bound { (16 ≤ result) × (result ≤ 23) }
 {
     match reach {
-        Reach::Alone | Reach::Far => 3,
-        Reach::Near => 4,
+        Reach::Alone => 23,
+        Reach::Near => 16,
+        Reach::Far => 19,
     }
 }

@@ -14,9 +14,11 @@
 #![tactic(auto)]
 
 mod added_bank;
+mod added_banks;
 mod added_lane;
 mod decided_place;
 mod decoder;
+mod fast_bank;
 mod fixed_bank;
 mod fixed_hearing;
 mod hearing;

@@ -1,18 +1,16 @@
-//! The added lanes that follow a clock on one list of tones.
+//! The added lanes that follow the slow clock on one list of tones.
 
-ghost use Rattle.std.specs.Prelude.{◌≡◌, ◌+◌, ◌-◌, ◌<◌, ◌≤◌, ◌^◌, ℕ, ℤ, List, [], length, IfOk, OnOk};
+ghost use Rattle.std.specs.Prelude.{◌≡◌, ◌+◌, ◌<◌, ◌≤◌, ◌^◌, ℕ, ℤ, List, [], length, IfOk, OnOk};
 ghost use Rattle.std.specs.List.{All};
 ghost use Rattle.tone_table.specs.declared.tone.Tone.{Tone};
-ghost use Rattle.tone_tracking.specs.declared.reach.Reach.TheVariants.{Near};
-ghost use Rattle.tone_tracking.specs.Clock.{next_clock, reads};
 ghost use Rattle.sensitive_receiver.specs.Found.{AddsIn, HasRoomFrom};
 ghost use Rattle.sensitive_receiver.specs.Hearing.{ReadsLine};
 ghost use Rattle.sensitive_receiver.specs.HeldList.{HasRead};
 ghost use Rattle.sensitive_receiver.specs.Lanes.{tones};
 
 use crate::decided_place::DecidedPlace;
-use crate::hearing::hear_place;
-use crate::lanes::lanes_in;
+use crate::hearing::hear_slow;
+use crate::lanes::first_slow;
 use crate::late_lane::{LateLane, new_lanes};
 use frame_merge::Candidate;
 use std::alloc::Global;
@@ -21,37 +19,33 @@ use tnc_base::OutOfMemory;
 use tone_table::Tone;
 use tone_tracking::{BitClock, PlaceTones, Pull, Reach, ToneRing};
 
-/// The last tones of a list, the clocks that follow them, and the lanes that read them: `new`, then `feed` for each line of
-/// tones. Only the near list has a lane on the fast clock. After
-/// want of memory no clause says what it gives.
+/// The last tones of a list, the slow clock that follows them, and the three lanes that read them: `new`, then `feed` for
+/// each line of tones. After want of memory no clause says what it gives.
 #[derive(Drop)]
 pub struct ListBank {
     alloc: Global,
     reach: Reach,
     place: u64,
     ring: ToneRing,
-    slow: BitClock,
-    fast: BitClock,
+    clock: BitClock,
     lanes: Vec<LateLane>,
 }
 
 impl Model for ListBank {
     ghost use Rattle.std.specs.Prelude.{◌≡◌, length};
-    ghost use Rattle.tone_tracking.specs.declared.bit_clock.Pull.TheVariants.{Slow, Fast};
+    ghost use Rattle.tone_tracking.specs.declared.bit_clock.Pull.TheVariants.{Slow};
     ghost use Rattle.sensitive_receiver.specs.HeldList.{HeldList};
-    ghost use Rattle.sensitive_receiver.specs.ListLanes.{lanes_in};
 
     ghost Value = { HeldList };
 
     ghost view = { λ s. record {
       ring = s.ring;
-      slow = s.slow;
-      fast = s.fast;
+      clock = s.clock;
       lanes = s.lanes.items;
     } };
 
     ghost invariant = { λ s. (s.ring.reach ≡ s.reach) × (s.ring.place ≡ s.place)
-        × (length s.lanes.items ≡ lanes_in s.reach) × (s.slow.0 ≡ Slow) × (s.fast.0 ≡ Fast) };
+        × (length s.lanes.items ≡ 3) × (s.clock.0 ≡ Slow) };
 }
 
 impl ListBank {
@@ -66,9 +60,8 @@ impl ListBank {
             reach,
             place: 0,
             ring: ToneRing::new(reach),
-            slow: BitClock::new(Pull::Slow),
-            fast: BitClock::new(Pull::Fast),
-            lanes: new_lanes(alloc, lanes_in(reach))?,
+            clock: BitClock::new(Pull::Slow),
+            lanes: new_lanes(alloc, 3)?,
         })
     }
 
@@ -127,22 +120,16 @@ impl ListBank {
         self.ring.push(tone);
         let at = DecidedPlace {
             place: self.place,
-            slow: self.slow.step(tone),
-            fast: step_fast(reach, &mut self.fast, tone),
+            reads: self.clock.step(tone),
         };
         self.place += 1;
-        hear_place(self.alloc, reach, &self.ring, &mut self.lanes, &at, found)
+        hear_slow(
+            self.alloc,
+            &self.ring,
+            &mut self.lanes,
+            first_slow(reach),
+            &at,
+            found,
+        )
     }
-}
-
-/// Has the fast clock take a tone of the near list, and says whether a bit is read. No lane of the other lists follows it.
-#[inline(always)]
-fn step_fast(reach: Reach, clock: &mut BitClock, tone: Tone) -> bool
-    ensures near { reach ≡ Near → (clock.new.1 ≡ next_clock clock.old.0 clock.old.1 tone) × (result ≡ reads clock.old.1) }
-    ensures pull { clock.new.0 ≡ clock.old.0 }
-{
-    if reach == Reach::Near {
-        return clock.step(tone);
-    }
-    false
 }

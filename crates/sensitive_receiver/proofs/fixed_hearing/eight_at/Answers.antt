@@ -1,4 +1,4 @@
-use Rattle.sensitive_receiver.proofs.Common.{◌≡◌, ◌+◌, ◌*◌, ◌<◌, ◌∙◌, List, refl, get_or, set, length, ap, sym, arith, inl, inr, cases_eq}
+use Rattle.sensitive_receiver.proofs.Common.{◌+◌, ◌*◌, ◌∙◌, List, refl, get_or, set, ap, sym, arith, inl, inr, cases_eq}
 use Rattle.sensitive_receiver.proofs.Common.{Far, Tone}
 use Rattle.std.proofs.Common.{get_or-set_same, get_or-set_other}
 use Rattle.std.proofs.lemmas.List.{get_or_default, length-set}

@@ -1,4 +1,4 @@
-use Rattle.sensitive_receiver.proofs.Common.{◌≡◌, ◌+◌, ◌∙◌, ◌<◌, List, length, set, get_or, sym, subst, arith}
+use Rattle.sensitive_receiver.proofs.Common.{◌≡◌, ◌+◌, ◌∙◌, List, length, set, get_or, sym, subst, arith}
 use Rattle.std.proofs.lemmas.List.{length-set}
 use Rattle.slicer_bank.specs.ToneLanes.{HeldToneLane}
 use Rattle.sensitive_receiver.specs.FixedLanes.{LaneReads, LanesRead}

@@ -1,4 +1,4 @@
-use Rattle.sensitive_receiver.proofs.Common.{◌+◌, ◌<◌, length, arith}
+use Rattle.sensitive_receiver.proofs.Common.{◌+◌, arith}
 use Rattle.sensitive_receiver.proofs.FixedLines.{reads_line, reads_none, reads_on}
 use Rattle.sensitive_receiver.proofs.fixed_hearing.hear_line.Goals as goal
 

@@ -1,4 +1,4 @@
-use Rattle.sensitive_receiver.proofs.Common.{◌+◌, arith, refl}
+use Rattle.sensitive_receiver.proofs.Common.{◌+◌, arith}
 use Rattle.sensitive_receiver.proofs.FixedLines.{reads_eight, reads_left}
 use Rattle.sensitive_receiver.proofs.fixed_hearing.read_on.Goals as goal
 

@@ -1,4 +1,4 @@
-use Rattle.sensitive_receiver.proofs.Common.{◌≡◌, ◌+◌, ◌∙◌, ℤ, List, ap, sym, refl, arith, true≢false, on_ok_weaker}
+use Rattle.sensitive_receiver.proofs.Common.{◌≡◌, ◌+◌, ◌∙◌, ℤ, List, sym, refl, arith, true≢false, on_ok_weaker}
 use Rattle.sensitive_receiver.proofs.Common.{Far, tones, lane_tones}
 use Rattle.sensitive_receiver.specs.Hearing.{AreTonesOf}
 use Rattle.sensitive_receiver.proofs.FixedLemmas.{line_tone, one_read, no_frame, some_frame}

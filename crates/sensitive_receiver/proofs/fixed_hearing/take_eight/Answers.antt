@@ -1,4 +1,4 @@
-use Rattle.sensitive_receiver.proofs.Common.{◌+◌, ◌∙◌, length, arith, true≢false, sym}
+use Rattle.sensitive_receiver.proofs.Common.{arith}
 use Rattle.sensitive_receiver.proofs.fixed_hearing.take_eight.Goals as goal
 
 pub returns-clause-taken : goal.returns-clause-taken

@@ -8,8 +8,8 @@ use Rattle.sensitive_receiver.proofs.BankLemmas.{HasFed, all_done, fed_more, fed
 use Rattle.sensitive_receiver.proofs.pieces.feed_block.Goals as goal
 
 pub loop-piece-init : goal.loop-piece-init
-loop-piece-init g c =
-    let old : HeldBank = bank_of c.args.line.now c.args.alone.now c.args.near.now c.args.fixed.now c.args.far.now in (
+loop-piece-init c =
+    let old : HeldBank = bank_of c.args.line.now c.args.banks.now in (
       search rules,
       search rules,
       search rules,
@@ -20,17 +20,16 @@ loop-piece-init g c =
 
 -- what was given so far, and how far that is, with a piece more
 pub loop-piece-preserved : goal.loop-piece-preserved
-loop-piece-preserved g c =
+loop-piece-preserved c =
     let piece : List ℤ = c.in-Some.piece.now in
     let rest : List ℤ = chunks_rest c.next.new.self in
     let before = c.loop-piece.invariant in
     let done : List ℤ = before.3 in
     let steps = c.in-Some.ensures.steps in
     let whole : done ++ (piece ++ rest) ≡ c.args.block.now = ap (λ t. done ++ t) (sym steps.1.0) ∙ before.4 in
-    let old : HeldBank = bank_of c.args.line.now c.args.alone.now c.args.near.now c.args.fixed.now c.args.far.now in
-    let was : HeldBank = bank_of c.loop-piece.line c.loop-piece.alone c.loop-piece.near c.loop-piece.fixed c.loop-piece.far in
-    let now : HeldBank = bank_of c.feed_piece.new.line c.feed_piece.new.alone c.feed_piece.new.near c.feed_piece.new.fixed
-    c.feed_piece.new.far in (
+    let old : HeldBank = bank_of c.args.line.now c.args.banks.now in
+    let was : HeldBank = bank_of c.loop-piece.line c.loop-piece.banks in
+    let now : HeldBank = bank_of c.feed_piece.new.line c.feed_piece.new.banks in (
       search rules,
       tt,
       steps.0 ∙ before.2,
@@ -43,20 +42,20 @@ loop-piece-preserved g c =
 
 -- the whole block is done
 pub returns-clause-heard : goal.returns-clause-heard
-returns-clause-heard g c =
+returns-clause-heard c =
     let before = c.loop-piece.invariant in
     let whole = all_done before.3 (chunks_rest c.loop-piece.piece-iterator) c.args.block.now before.4
     c.in-None.ensures.steps.1.0 in
-    let old : HeldBank = bank_of c.args.line.now c.args.alone.now c.args.near.now c.args.fixed.now c.args.far.now in
-    let now : HeldBank = bank_of c.loop-piece.line c.loop-piece.alone c.loop-piece.near c.loop-piece.fixed c.loop-piece.far in
+    let old : HeldBank = bank_of c.args.line.now c.args.banks.now in
+    let now : HeldBank = bank_of c.loop-piece.line c.loop-piece.banks in
     subst (λ done. HearsBlock old now done c.loop-piece.found.items) whole before.5.heard
 
 pub returns-clause-at : goal.returns-clause-at
-returns-clause-at g c = c.loop-piece.invariant.5.at
+returns-clause-at c = c.loop-piece.invariant.5.at
 
 -- a piece has room, as the block has
 pub feed_piece-requires-clause-room : goal.feed_piece-requires-clause-room
-feed_piece-requires-clause-room g c =
+feed_piece-requires-clause-room c =
     let piece : List ℤ = c.in-Some.piece.now in
     let rest : List ℤ = chunks_rest c.next.new.self in
     let before = c.loop-piece.invariant in
@@ -69,4 +68,4 @@ feed_piece-requires-clause-room g c =
     omega (arith, length-append done (piece ++ rest), length-append piece rest)
 
 pub feed_piece-requires-clause-at : goal.feed_piece-requires-clause-at
-feed_piece-requires-clause-at g c = c.loop-piece.invariant.5.at
+feed_piece-requires-clause-at c = c.loop-piece.invariant.5.at

@@ -1,4 +1,4 @@
-use Rattle.sensitive_receiver.proofs.Common.{◌≡◌, ◌+◌, ◌++◌, ◌∙◌, List, [], length, take, drop, sym, subst, arith, All, All-nil}
+use Rattle.sensitive_receiver.proofs.Common.{◌≡◌, ◌+◌, ◌++◌, ◌∙◌, List, length, take, drop, sym, subst, arith, All, All-nil}
 use Rattle.sensitive_receiver.proofs.Common.{Candidate, HasRoomFrom}
 use Rattle.slicer_bank.specs.ToneLanes.{HeldToneLane}
 use Rattle.sensitive_receiver.specs.FixedLanes.{FixedReadsLine, HeldFixed, LanesRead}

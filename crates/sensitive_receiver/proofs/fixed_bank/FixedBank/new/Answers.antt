@@ -1,5 +1,5 @@
-use Rattle.sensitive_receiver.proofs.Common.{◌+◌, ◌<◌, length, get_or, sym, subst, arith}
-use Rattle.slicer_bank.specs.ToneLanes.{HeldToneLane, ToneLaneStandsFor}
+use Rattle.sensitive_receiver.proofs.Common.{◌+◌, get_or, sym, subst, arith}
+use Rattle.slicer_bank.specs.ToneLanes.{ToneLaneStandsFor}
 use Rattle.sensitive_receiver.proofs.VisitedLanes.{tones_of_none}
 use Rattle.sensitive_receiver.proofs.fixed_bank.FixedBank.new.Goals as goal
 

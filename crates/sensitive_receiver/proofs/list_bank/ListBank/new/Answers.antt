@@ -1,5 +1,5 @@
-use Rattle.sensitive_receiver.proofs.Common.{◌∙◌, ap, sym, subst, refl, Near, Slow, Fast, tones, without_mean}
-use Rattle.sensitive_receiver.proofs.Common.{LanesHaveRead, clock_after, lanes_in}
+use Rattle.sensitive_receiver.proofs.Common.{◌∙◌, ap, sym, subst, refl, Slow, tones, without_mean}
+use Rattle.sensitive_receiver.proofs.Common.{LanesHaveRead, clock_after}
 use Rattle.tone_tracking.specs.Correlation.{correlations}
 use Rattle.sensitive_receiver.proofs.VisitedLanes.{read_none}
 use Rattle.sensitive_receiver.proofs.list_bank.ListBank.new.Goals as goal
@@ -11,9 +11,8 @@ returns-clause-read c = λ x.
     let made = c.in_ok-new_lanes.ensures in
     record {
       decided = c.new.ensures.stands_for (correlations (without_mean x));
-      slow = c.new-2.ensures.stands_for (tones ring.reach x) ∙ ap (clock_after Slow (tones ring.reach x)) start;
-      fast = λ near. c.new-3.ensures.stands_for (tones Near x) ∙ ap (clock_after Fast (tones Near x)) start;
+      clock = c.new-2.ensures.stands_for (tones ring.reach x) ∙ ap (clock_after Slow (tones ring.reach x)) start;
       lanes = subst (λ n. LanesHaveRead ring.reach c.in_ok-new_lanes.field-0.items n x) start
-          (read_none ring.reach _ c.in_ok-new_lanes.field-0.items x (made.count ∙ c.lanes_in.ensures ∙ ap lanes_in (sym c.new.ensures.reach))
+          (read_none ring.reach _ c.in_ok-new_lanes.field-0.items x made.count
           (record { count = refl; each = made.fresh }));
     }
