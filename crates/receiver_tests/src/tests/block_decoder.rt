@@ -7,7 +7,7 @@ use crate::tests::meeting::Meeting;
 use frame_merge::Candidate;
 use hf_modem::HfDecoder;
 use hf_sensitive::HfSensitiveDecoder;
-use sensitive_receiver::SensitiveDecoder;
+use sensitive_receiver::{AllOnThreads, SensitiveDecoder};
 use slicer_bank::{Decoder, OnThreads};
 use std::alloc::Global;
 use std::thread::Threads;
@@ -165,7 +165,7 @@ impl BlockDecoder for SensitiveDecoder {
         block: &[i16],
         _gate: &Meeting,
     ) -> Result<Vec<Candidate>, OutOfMemory> {
-        SensitiveDecoder::block_threads(self, rt, block)
+        SensitiveDecoder::block_by(self, &AllOnThreads { rt }, block)
     }
 
     fn end(&mut self) -> Result<Vec<Candidate>, OutOfMemory> {

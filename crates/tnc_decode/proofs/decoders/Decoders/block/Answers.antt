@@ -122,12 +122,12 @@ pub returns-in-Sensitive-clause-given : goal.returns-in-Sensitive-clause-given
 returns-in-Sensitive-clause-given g c =
     let block : List ℤ = c.args.block.now in
     let old = c.in-Sensitive.decoder in
-    let new = c.block_threads-in-Sensitive.new.self in
-    let P : Decoders → Type 0 = λ self. IfOk c.block_threads-in-Sensitive.result
+    let new = c.block_by-in-Sensitive.new.self in
+    let P : Decoders → Type 0 = λ self. IfOk c.block_by-in-Sensitive.result
     (λ items. (modem : Modem) (x : List ℤ) → HasDecoded modem self x
     → HasDecoded modem (Sensitive new) (x ++ block)
     × AreGivenBetween modem (settled_count modem x) (settled_count modem (x ++ block)) (x ++ block) items.items) in
-    subst P (sym c.in-Sensitive.is) (IfOk-weaker c.block_threads-in-Sensitive.result
+    subst P (sym c.in-Sensitive.is) (IfOk-weaker c.block_by-in-Sensitive.result
     (λ items. (x : List ℤ) → SensitiveStandsFor old x
     → SensitiveStandsFor new (x ++ block)
     × AreSensitiveMergedBetween (settled (length x)) (settled (length (x ++ block))) (x ++ block) items.items)
@@ -135,7 +135,7 @@ returns-in-Sensitive-clause-given g c =
     → HasDecoded modem (Sensitive new) (x ++ block)
     × AreGivenBetween modem (settled_count modem x) (settled_count modem (x ++ block)) (x ++ block) items.items)
     (λ items given. sensitive_block old new block items.items given)
-    c.block_threads-in-Sensitive.ensures.given)
+    c.block_by-in-Sensitive.ensures.given)
 
 pub returns-in-Sensitive-2-clause-given : goal.returns-in-Sensitive-2-clause-given
 returns-in-Sensitive-2-clause-given g c =
