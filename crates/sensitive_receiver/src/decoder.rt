@@ -77,9 +77,7 @@ impl<'a, R: Threads + Sync> Hearer<AllLanes> for AllOnThreads<'a, R> {
         _position: u64,
         block: &[i16],
     ) -> Result<Vec<Candidate>, OutOfMemory> {
-        let (heard, heard_beside) = lanes.added.feed_beside(self.rt, &mut lanes.bank, block);
-        let found = heard?;
-        let added = heard_beside?;
+        let (found, added) = lanes.added.feed_beside(self.rt, &mut lanes.bank, block)?;
         let all = join(found, added)?;
         Ok(all)
     }
