@@ -9,7 +9,6 @@ ghost use Rattle.sensitive_receiver.specs.HeldLanes.{StandsFor};
 
 use crate::added_banks::AddedBanks;
 use crate::pieces::{feed_block, feed_block_beside};
-use crate::reading::Heard;
 use frame_merge::Candidate;
 use slicer_bank::Bank;
 use std::alloc::Global;
@@ -86,22 +85,26 @@ impl AddedBank {
         rt: &R,
         bank: &mut Bank,
         block: &[i16],
-    ) -> (Heard, Heard)
+    ) -> Result<(Vec<Candidate>, Vec<Candidate>), OutOfMemory>
         requires room { self.old.position + length block.now < 2 ^ 48 }
         requires bank { bank.old.position + length block.now < 2 ^ 48 }
-        ensures eight { IfOk result.0 (λ found. FeedsBlock bank.old bank.new block.now found.items) }
-        ensures eight_bounds { IfOk result.0 (λ found. All CanBePut found.items) }
-        ensures eight_past { IfOk result.0 (λ found. AllPast bank.old.position found.items) }
-        ensures eight_position { OnOk result.0 (bank.new.position ≡ bank.old.position + length block.now) }
-        ensures added { IfOk result.1 (λ found. HearsBlock self.old self.new block.now found.items) }
+        ensures eight { IfOk result (λ heard. FeedsBlock bank.old bank.new block.now heard.0.items) }
+        ensures eight_bounds { IfOk result (λ heard. All CanBePut heard.0.items) }
+        ensures eight_past { IfOk result (λ heard. AllPast bank.old.position heard.0.items) }
+        ensures eight_position { OnOk result (bank.new.position ≡ bank.old.position + length block.now) }
+        ensures added { IfOk result (λ heard. HearsBlock self.old self.new block.now heard.1.items) }
     {
-        if self.spent || block.len() < LONG {
-            let found = bank.feed(block);
-            return (found, self.feed(block));
+        if block.len() < LONG {
+            let found = bank.feed(block)?;
+            let added = self.feed(block)?;
+            return Ok((found, added));
+        }
+        if self.spent {
+            return Err(OutOfMemory);
         }
         self.spent = true;
-        let (found, added) = feed_block_beside(rt, &mut self.line, &mut self.banks, bank, block);
-        self.spent = added.is_err();
-        (found, added)
+        let heard = feed_block_beside(rt, &mut self.line, &mut self.banks, bank, block)?;
+        self.spent = false;
+        Ok(heard)
     }
 }

@@ -1,14 +1,18 @@
 //! The five banks of added lanes, which read each line of tones.
 
-ghost use Rattle.std.specs.Prelude.{◌≡◌, ◌+◌, ◌<◌, ◌^◌, ◌++◌, ℤ, List, length, IfOk};
+ghost use Rattle.std.specs.Prelude.{◌≡◌, ◌+◌, ◌<◌, ◌^◌, ◌++◌, ℤ, List, length, IfOk, OnOk};
+ghost use Rattle.std.specs.List.{All};
 ghost use Rattle.std.specs.Thread.{IsSync};
+ghost use Rattle.slicer_bank.specs.Feeding.{FeedsBlock};
+ghost use Rattle.slicer_bank.specs.Merging.{AllPast, CanBePut};
 ghost use Rattle.sensitive_receiver.specs.FiveBanks.{AllReadLine, AreAt, HaveRead, HaveRoom};
 
 use crate::fast_bank::FastBank;
 use crate::fixed_bank::FixedBank;
 use crate::list_bank::ListBank;
-use crate::reading::{read_lists, read_rest};
+use crate::reading::{read_fast_beside, read_lists};
 use frame_merge::Candidate;
+use slicer_bank::Bank;
 use std::alloc::Global;
 use std::marker::Model;
 use std::thread::{Threads, join_mut};
@@ -68,33 +72,44 @@ impl AddedBanks {
         join_heard(fixed, near, far, fast, alone)
     }
 
-    /// Does what [`AddedBanks::read`] does, with each bank on a thread of its own.
-    pub(crate) fn read_threads<R: Threads + Sync>(
+    /// Does what [`AddedBanks::read`] does, and [`Bank::feed`] for eight plain lanes, with each bank on a thread of its own. The
+    /// order of the joins is the one that measured best.
+    pub(crate) fn read_beside<R: Threads + Sync>(
         &mut self,
         rt: &R,
         line: &[PlaceTones],
-    ) -> Result<Vec<Candidate>, OutOfMemory>
+        bank: &mut Bank,
+        block: &[i16],
+    ) -> Result<(Vec<Candidate>, Vec<Candidate>), OutOfMemory>
         requires room { HaveRoom (length line.now) self.old }
-        ensures { IfOk result (λ found. AllReadLine self.old self.new line.now found.items) }
+        requires bank { bank.old.position + length block.now < 2 ^ 48 }
+        ensures eight { IfOk result (λ heard. FeedsBlock bank.old bank.new block.now heard.0.items) }
+        ensures eight_bounds { IfOk result (λ heard. All CanBePut heard.0.items) }
+        ensures eight_past { IfOk result (λ heard. AllPast bank.old.position heard.0.items) }
+        ensures eight_position { OnOk result (bank.new.position ≡ bank.old.position + length block.now) }
+        ensures added { IfOk result (λ heard. AllReadLine self.old self.new line.now heard.1.items) }
     {
         let (fixed, near) = (&mut self.fixed, &mut self.near);
         let (far, fast, alone) = (&mut self.far, &mut self.fast, &mut self.alone);
-        let ((near_heard, far_heard), ((fixed_heard, fast_heard), alone_heard)) = join_mut(
-            rt,
-            &mut ||
-                requires { IsSync R.row × (near.now.ring.place + length line.now < 2 ^ 48) × (far.now.ring.place + length line.now < 2 ^ 48) }
-            { read_lists(rt, line, near, far) },
-            &mut ||
-                requires { IsSync R.row × (fixed.now.place + length line.now < 2 ^ 48) × (fast.now.ring.place + length line.now < 2 ^ 48) × (alone.now.ring.place + length line.now < 2 ^ 48) }
-            { read_rest(rt, line, fixed, fast, alone) },
-        );
-        join_heard(
+        let ((eight_heard, (fast_heard, alone_heard)), (far_heard, (fixed_heard, near_heard))) =
+            join_mut(
+                rt,
+                &mut ||
+                    requires { IsSync R.row × (fast.now.ring.place + length line.now < 2 ^ 48) × (alone.now.ring.place + length line.now < 2 ^ 48) × (bank.now.position + length block.now < 2 ^ 48) }
+                { read_fast_beside(rt, line, fast, alone, bank, block) },
+                &mut ||
+                    requires { IsSync R.row × (far.now.ring.place + length line.now < 2 ^ 48) × (fixed.now.place + length line.now < 2 ^ 48) × (near.now.ring.place + length line.now < 2 ^ 48) }
+                { read_lists(rt, line, far, fixed, near) },
+            );
+        let found = eight_heard?;
+        let added = join_heard(
             fixed_heard?,
             near_heard?,
             far_heard?,
             fast_heard?,
             alone_heard?,
-        )
+        )?;
+        Ok((found, added))
     }
 }
 

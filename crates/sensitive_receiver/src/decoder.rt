@@ -100,9 +100,7 @@ impl SensitiveDecoder {
         ensures progress { TakesBlock (progress self.old) (progress self.new) (length block.now) result }
     {
         self.progress.begin()?;
-        let (heard, heard_beside) = self.added.feed_beside(rt, &mut self.bank, block);
-        let found = heard?;
-        let added = heard_beside?;
+        let (found, added) = self.added.feed_beside(rt, &mut self.bank, block)?;
         self.settle(found, added, block.len())
     }
 

@@ -2,22 +2,20 @@
 
 ghost use Rattle.std.specs.Prelude.{◌≡◌, ◌+◌, ◌<◌, ◌≤◌, ◌^◌, length, IfOk, OnOk};
 ghost use Rattle.std.specs.List.{All};
-ghost use Rattle.std.specs.Thread.{IsSync};
 ghost use Rattle.tone_tracking.specs.HeldLine.{decided_in};
 ghost use Rattle.slicer_bank.specs.Feeding.{FeedsBlock};
 ghost use Rattle.slicer_bank.specs.Merging.{AllPast, CanBePut};
-ghost use Rattle.sensitive_receiver.specs.FiveBanks.{AllReadLine, AreAt, HaveRoom};
+ghost use Rattle.sensitive_receiver.specs.FiveBanks.{AreAt};
 ghost use Rattle.sensitive_receiver.specs.HeardBlock.{HearsBlock};
 ghost use Rattle.sensitive_receiver.specs.HeldLanes.{bank_of};
 
 use crate::added_banks::AddedBanks;
-use crate::reading::Heard;
 use frame_merge::Candidate;
 use slicer_bank::Bank;
 use std::alloc::Global;
-use std::thread::{Threads, join_mut};
+use std::thread::Threads;
 use tnc_base::OutOfMemory;
-use tone_tracking::{PlaceTones, ToneLine};
+use tone_tracking::ToneLine;
 
 /// Takes a block of samples in pieces of a size, and gives what the lanes hear.
 pub(crate) fn feed_block(
@@ -59,54 +57,26 @@ fn feed_piece(
     Ok(found)
 }
 
-/// Takes a block of samples as one piece, with the tones decided on threads, and gives what the lanes hear, beside the eight
-/// plain lanes of a bank.
+/// Takes a block of samples as one piece, with the tones decided on threads, and gives what the lanes hear, after what the
+/// eight plain lanes of a bank hear beside them.
 pub(crate) fn feed_block_beside<R: Threads + Sync>(
     rt: &R,
     line: &mut ToneLine,
     banks: &mut AddedBanks,
     bank: &mut Bank,
     block: &[i16],
-) -> (Heard, Heard)
+) -> Result<(Vec<Candidate>, Vec<Candidate>), OutOfMemory>
     requires room { line.old.count + length block.now < 2 ^ 48 }
     requires at { AreAt (decided_in line.old.count) banks.old }
     requires bank { bank.old.position + length block.now < 2 ^ 48 }
-    ensures eight { IfOk result.0 (λ found. FeedsBlock bank.old bank.new block.now found.items) }
-    ensures eight_bounds { IfOk result.0 (λ found. All CanBePut found.items) }
-    ensures eight_past { IfOk result.0 (λ found. AllPast bank.old.position found.items) }
-    ensures eight_position { OnOk result.0 (bank.new.position ≡ bank.old.position + length block.now) }
-    ensures added { IfOk result.1 (λ found. HearsBlock (bank_of line.old banks.old) (bank_of line.new banks.new)
-        block.now found.items) }
-    ensures at { OnOk result.1 (AreAt (decided_in line.new.count) banks.new) }
+    ensures eight { IfOk result (λ heard. FeedsBlock bank.old bank.new block.now heard.0.items) }
+    ensures eight_bounds { IfOk result (λ heard. All CanBePut heard.0.items) }
+    ensures eight_past { IfOk result (λ heard. AllPast bank.old.position heard.0.items) }
+    ensures eight_position { OnOk result (bank.new.position ≡ bank.old.position + length block.now) }
+    ensures added { IfOk result (λ heard. HearsBlock (bank_of line.old banks.old) (bank_of line.new banks.new)
+        block.now heard.1.items) }
+    ensures at { OnOk result (AreAt (decided_in line.new.count) banks.new) }
 {
-    if let Err(fault) = line.feed_threads(rt, block) {
-        return (Err(OutOfMemory), Err(fault.into()));
-    }
-    read_beside(rt, line.line(), banks, bank, block)
-}
-
-/// Has the banks of added lanes read a line on threads, beside the eight plain lanes of a bank, which take the block.
-fn read_beside<R: Threads + Sync>(
-    rt: &R,
-    line: &[PlaceTones],
-    banks: &mut AddedBanks,
-    bank: &mut Bank,
-    block: &[i16],
-) -> (Heard, Heard)
-    requires room { HaveRoom (length line.now) banks.old }
-    requires bank { bank.old.position + length block.now < 2 ^ 48 }
-    ensures eight { IfOk result.0 (λ found. FeedsBlock bank.old bank.new block.now found.items) }
-    ensures eight_bounds { IfOk result.0 (λ found. All CanBePut found.items) }
-    ensures eight_past { IfOk result.0 (λ found. AllPast bank.old.position found.items) }
-    ensures eight_position { OnOk result.0 (bank.new.position ≡ bank.old.position + length block.now) }
-    ensures added { IfOk result.1 (λ found. AllReadLine banks.old banks.new line.now found.items) }
-{
-    let (added, found) = join_mut(
-        rt,
-        &mut ||
-            requires { IsSync R.row × HaveRoom (length line.now) banks.now }
-        { banks.read_threads(rt, line) },
-        &mut || bank.feed(block),
-    );
-    (found, added)
+    line.feed_threads(rt, block)?;
+    banks.read_beside(rt, line.line(), bank, block)
 }
