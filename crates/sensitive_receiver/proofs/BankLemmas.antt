@@ -1,6 +1,6 @@
 -- A bank of added lanes with a piece of samples more.
 use Rattle.sensitive_receiver.proofs.Common.{◌≡◌, ℕ, ◌+◌, ◌-◌, ◌<◌, ◌≤◌, ◌^◌, ℤ, List, [], ◌∷◌, ◌++◌, length, get_or}
-use Rattle.sensitive_receiver.proofs.Common.{ap, sym, subst, ◌∙◌, arith, inl, inr, append_assoc, append-nil}
+use Rattle.sensitive_receiver.proofs.Common.{sym, subst, ◌∙◌, arith, inl, inr, append_assoc, append-nil}
 use Rattle.sensitive_receiver.proofs.Common.{length-append, cases_lt, Candidate, All, All-append, All-nil, All-weaker}
 use Rattle.sensitive_receiver.proofs.Common.{Reach, Near, Far, Alone, IsSlowOn, added_places, HeldList, AreAddedBetween, AreAddedIn}
 use Rattle.sensitive_receiver.proofs.Common.{HasRead, HasRoomFrom}

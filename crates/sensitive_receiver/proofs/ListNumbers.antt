@@ -1,5 +1,5 @@
 -- The numbers of the lanes on the slow clock of a list, and when they read.
-use Rattle.sensitive_receiver.proofs.Common.{◌≡◌, ℕ, ℤ, List, ◌+◌, ◌-◌, ◌<◌, ◌≤◌, ◌∙◌, arith}
+use Rattle.sensitive_receiver.proofs.Common.{◌≡◌, ℕ, ℤ, List, ◌-◌, ◌∙◌, arith}
 use Rattle.sensitive_receiver.proofs.Common.{Reach, Alone, Near, Far, Slow, DecidedPlace}
 use Rattle.sensitive_receiver.proofs.Common.{IsSlowOn, delay_of, first_slow, is_read_at, list_of, tones}
 unfoldable use Rattle.sensitive_receiver.specs.Lanes.{readings_at}

@@ -1,6 +1,6 @@
 //! The added lanes that follow the slow clock on one list of tones.
 
-ghost use Rattle.std.specs.Prelude.{◌≡◌, ◌+◌, ◌<◌, ◌≤◌, ◌^◌, ℕ, ℤ, List, [], length, IfOk, OnOk};
+ghost use Rattle.std.specs.Prelude.{◌≡◌, ◌+◌, ◌<◌, ◌≤◌, ◌^◌, ℕ, ℤ, List, length, IfOk, OnOk};
 ghost use Rattle.std.specs.List.{All};
 ghost use Rattle.tone_table.specs.declared.tone.Tone.{Tone};
 ghost use Rattle.sensitive_receiver.specs.Found.{AddsIn, HasRoomFrom};

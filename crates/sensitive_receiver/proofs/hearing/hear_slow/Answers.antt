@@ -1,4 +1,4 @@
-use Rattle.sensitive_receiver.proofs.Common.{◌≡◌, ◌∙◌, ℕ, ℤ, ◌+◌, List, get_or, set, ap, sym, subst}
+use Rattle.sensitive_receiver.proofs.Common.{◌≡◌, ℕ, ℤ, ◌+◌, List, get_or, set, ap, sym, subst}
 use Rattle.sensitive_receiver.proofs.Common.{arith, Candidate, AddsAt, HeldLane, LastIsRead, LaneStandsFor, LanesHear}
 use Rattle.sensitive_receiver.proofs.Common.{lane_of, lane_tones}
 use Rattle.sensitive_receiver.proofs.PlaceLanes.{adds_silent, lanes_silent}

@@ -1,5 +1,5 @@
-use Rattle.sensitive_receiver.proofs.Common.{IfOk-weaker, List, Candidate}
-use Rattle.sensitive_receiver.proofs.BankLemmas.{HasFed, piece_heard, row_room}
+use Rattle.sensitive_receiver.proofs.Common.{IfOk-weaker}
+use Rattle.sensitive_receiver.proofs.BankLemmas.{piece_heard, row_room}
 use Rattle.sensitive_receiver.specs.FiveBanks.{AllReadLine, AreAt}
 use Rattle.sensitive_receiver.specs.HeardBlock.{HearsBlock}
 use Rattle.sensitive_receiver.specs.HeldLanes.{HeldBank, bank_of}

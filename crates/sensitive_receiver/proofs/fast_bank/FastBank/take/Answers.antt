@@ -1,4 +1,4 @@
-use Rattle.sensitive_receiver.proofs.Common.{◌≡◌, ◌+◌, ℤ, List, ap, sym, subst, ◌∙◌, arith, on_ok_weaker, Near, tones}
+use Rattle.sensitive_receiver.proofs.Common.{◌≡◌, ◌+◌, ℤ, List, subst, on_ok_weaker, Near, tones}
 use Rattle.sensitive_receiver.specs.FastLane.{FastAdds, FastHasRead, HeldFast}
 use Rattle.sensitive_receiver.proofs.FastLemmas.{fast_found, fast_nothing, fast_of_parts, fast_passed, fast_taken}
 use Rattle.sensitive_receiver.proofs.fast_bank.FastBank.take.Goals as goal
