@@ -13,7 +13,7 @@ use frame_merge::Candidate;
 use slicer_bank::Bank;
 use std::alloc::Global;
 use std::marker::Model;
-use std::thread::Threads;
+use std::thread::{Threads, join_mut};
 use tnc_base::OutOfMemory;
 use tone_tracking::ToneLine;
 
@@ -79,7 +79,8 @@ impl AddedBank {
     }
 
     /// Does what [`AddedBank::feed`] does, and [`Bank::feed`] for eight plain lanes. If the block is long, the tones are decided
-    /// on threads, and then the banks of added lanes and the eight lanes share the machine.
+    /// on threads, and then the banks of added lanes and the eight lanes share the machine. Otherwise all added lanes have one
+    /// thread, and the eight lanes another.
     pub fn feed_beside<R: Threads + Sync>(
         &mut self,
         rt: &R,
@@ -95,9 +96,8 @@ impl AddedBank {
         ensures added { IfOk result (λ heard. HearsBlock self.old self.new block.now heard.1.items) }
     {
         if block.len() < LONG {
-            let found = bank.feed(block)?;
-            let added = self.feed(block)?;
-            return Ok((found, added));
+            let (added, found) = join_mut(rt, &mut || self.feed(block), &mut || bank.feed(block));
+            return Ok((found?, added?));
         }
         if self.spent {
             return Err(OutOfMemory);
