@@ -8,10 +8,8 @@ pub use Rattle.frame_merge.specs.declared.candidate.Candidate.{Candidate}
 pub use Rattle.hdlc_framer.specs.Frames.{EndsFrame}
 pub use Rattle.hf_modem.specs.Candidates.{AreCandidates, AreCandidatesAfter, IsCandidate, candidate_at, end_sample}
 unfoldable pub use Rattle.hf_modem.specs.Decision.{tone_of}
-pub use Rattle.hf_modem.specs.Heard.{HasHeard, IsHeard}
+pub use Rattle.hf_modem.specs.Heard.{IsHeard}
 pub use Rattle.hf_modem.specs.Held.{BankStandsFor, HeldBank, SlicerStandsFor, last_window}
-pub use Rattle.hf_modem.specs.HeldDecoder.{HeldDecoder, StandsFor}
-pub use Rattle.hf_modem.specs.MergedItems.{AreMergedBetween}
 unfoldable pub use Rattle.hf_modem.specs.Signal.{hf_signal}
 pub use Rattle.hf_modem.specs.Signal.{hf_samples_of}
 pub use Rattle.hf_sender.specs.Tones.{next_phase, phase_step}

@@ -5,5 +5,6 @@ pub mod Busy
 pub mod Candidates
 pub mod MergedItems
 pub mod Held
+pub mod Hearing
 pub mod HeldDecoder
 pub mod Heard

@@ -7,12 +7,12 @@ ghost use Rattle.std.specs.Option.{option_to_list};
 ghost use Rattle.tone_table.specs.declared.tone.Tone.{Tone};
 ghost use Rattle.nrzi_bits.specs.Line.{bits_of};
 ghost use Rattle.hdlc_framer.specs.Held.{flags_asked};
+ghost use Rattle.block_receiver.specs.Hearing.{CanBePut};
 ghost use Rattle.hf_modem.specs.Busy.{HearsCarrier};
 ghost use Rattle.hf_modem.specs.Candidates.{AreCandidatesAfter, end_sample};
 ghost use Rattle.slicer_bank.specs.ToneLanes.{ToneLaneStandsFor};
 ghost use Rattle.hf_modem.specs.Held.{AsksFor, BankStandsFor, LanesStandFor};
 ghost use Rattle.hf_modem.specs.Heard.{IsHeard};
-ghost use Rattle.hf_modem.specs.HeldDecoder.{CanBePut};
 
 use crate::decision::hf_decide;
 use crate::recent::Recent;
@@ -89,7 +89,7 @@ impl HfBank {
         ensures heard { IfOk result (λ heard. (x : List ℤ) → BankStandsFor self.old x
             → BankStandsFor self.new (x ++ sample ∷ [])
             × AreCandidatesAfter (length x) (x ++ sample ∷ []) (option_to_list heard)) }
-        ensures bounds { IfOk result (λ heard. IfSome heard CanBePut) }
+        ensures bounds { IfOk result (λ heard. IfSome heard (CanBePut 32)) }
         ensures late { IfOk result (λ heard. IfSome heard (λ item. self.old.position / 4 ≤ item.end)) }
         ensures place { IfOk result (λ heard. IfSome heard (λ item. (end_sample item ≡ self.old.position + 1)
             × (item.offset ≡ (self.old.position + 1) % 32))) }
@@ -166,7 +166,7 @@ fn hear(
         → ToneLaneStandsFor lane.new (tones ++ tone ∷ []) }
     ensures heard { IfOk result (λ heard. (tones : List Tone) → ToneLaneStandsFor lane.old tones
         → IsHeard offset at (bits_of (tones ++ tone ∷ [])) heard) }
-    ensures bounds { IfOk result (λ heard. IfSome heard CanBePut) }
+    ensures bounds { IfOk result (λ heard. IfSome heard (CanBePut 32)) }
     ensures end { IfOk result (λ heard. IfSome heard (λ item. (item.end ≡ at / 4) × (item.offset ≡ offset))) }
     ensures asks { flags_asked lane.new.deframer ≡ flags_asked lane.old.deframer }
 {

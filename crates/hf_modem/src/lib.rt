@@ -17,9 +17,9 @@ mod slicer;
 mod window;
 
 pub use bank::{HfBank, SAMPLES_AN_END};
-pub use block_hearing::OFFSETS;
+pub use block_hearing::hear_block;
 pub use decision::hf_decide;
-pub use decoder::HfDecoder;
+pub use decoder::{HfDecoder, OFFSETS};
 pub use laws::{
     hf_items_are_all, hf_items_join, one_list_of_hf_candidates, some_list_of_hf_candidates,
 };

@@ -8,7 +8,5 @@ pub mod PlaceLemmas
 pub mod BanksLemmas
 pub mod HeardLemmas
 pub mod MergedLemmas
-pub mod DecoderLemmas
-pub mod HearingLemmas
 pub mod SomeList
 pub mod SignalLaw

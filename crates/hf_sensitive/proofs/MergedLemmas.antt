@@ -1,24 +1,24 @@
--- What is given of samples, and of these with more samples.
-use Rattle.hf_sensitive.proofs.Common.{◌≡◌, ℕ, ◌+◌, ◌-◌, ◌<◌, ◌≤◌, Bool, true, ℤ, List, [], ◌∷◌, ◌++◌, length}
+-- What all lanes hear obeys the laws of a receiver.
+use Rattle.hf_sensitive.proofs.Common.{◌≡◌, ℕ, ◌+◌, ◌-◌, ◌<◌, ◌≤◌, Bool, true, ℤ, List, [], ◌∷◌, ◌++◌, length, subst}
 use Rattle.hf_sensitive.proofs.Common.{get_or, refl, inl, inr, ap, sym, ◌∙◌, arith, nat_le, nat_lt, ◌&&◌, All}
-use Rattle.hf_sensitive.proofs.Common.{ltb-true, leb-true, lt-ltb, and_parts, All-weaker}
+use Rattle.hf_sensitive.proofs.Common.{ltb-true, leb-true, lt-ltb, and_parts, All-weaker, in_order}
 use Rattle.hf_sensitive.proofs.Common.{All-filter, filter_passes, AllPairs-filter, Candidate, standing, merged}
-use Rattle.hf_sensitive.proofs.Common.{below, IsCandidate, AreCandidatesAfter, next_is, below_more}
+use Rattle.hf_sensitive.proofs.Common.{below, IsCandidate, AreCandidatesAfter, below_more}
 use Rattle.hf_sensitive.proofs.Common.{places_in, delay_of, EndsAtPlace, IsHeard, AreHeard, AreAddedAmong, IsAmong, end_sample, ◌*◌, ◌/◌, ◌%◌}
-use Rattle.hf_sensitive.proofs.Common.{settled, AreMergedBetween}
+use Rattle.hf_sensitive.proofs.Common.{settled}
 use Rattle.std.specs.List.{filter}
 use Rattle.std.specs.List.Sorted.{IsNonDecreasingBy}
 use Rattle.std.proofs.lemmas.Bool.{le-leb}
-use Rattle.std.proofs.lemmas.List.{append_cancel_left}
-use Rattle.frame_merge.specs.Merged.{between}
 use Rattle.frame_merge.proofs.Ordering.{rising_ends}
-use Rattle.frame_merge.proofs.Merging.{merged-rising, below_between, between_all, All-merged}
-use Rattle.frame_merge.proofs.Taking.{below_all}
-use Rattle.slicer_bank.proofs.MergedLemmas.{contains_passing, between_between}
+use Rattle.frame_merge.proofs.Merging.{merged-rising}
+use Rattle.slicer_bank.proofs.MergedLemmas.{contains_passing}
 use Rattle.slicer_bank.proofs.OneList.{same_list}
-use Rattle.hf_sensitive.specs.MergedItems.{AreMerged}
+use Rattle.block_receiver.specs.Hearing.{IsHearing, Adds}
+use Rattle.block_receiver.proofs.AddingLemmas.{put_among}
+use Rattle.hf_sensitive.specs.Hearing.{all_hf_hearing}
 use Rattle.hf_sensitive.proofs.FoundLemmas.{delay_small}
-use Rattle.hf_sensitive.proofs.HeardLemmas.{all_of, heard_join, heard_within, rest_late, rest_small, heard_in_order}
+use Rattle.hf_sensitive.proofs.HeardLemmas.{all_of, heard_join, heard_within, none_heard, rest_late, rest_small}
+use Rattle.hf_sensitive.proofs.HeardLemmas.{heard_in_order}
 
 -- samples have one list of candidates
 pub one_list : (x : List ℤ) (items others : List Candidate) → AreHeard x items → AreHeard x others → items ≡ others
@@ -34,23 +34,6 @@ rising_heard x items are = merged-rising (λ item. item.end) [] items (rising_en
 -- each ends within the samples
 ends_within : (x : List ℤ) (items : List Candidate) → AreHeard x items → All (λ item. item.end < length x / 4 + 1) items
 ends_within x items are k d l = let within = heard_within x (get_or items k d) (are.each k d l) in omega arith
-
-below_all_of : (x : List ℤ) (items : List Candidate) → AreHeard x items
-    → below (length x / 4 + 1) (merged items) ≡ merged items
-below_all_of x items are = below_all (length x / 4 + 1) (merged items)
-    (All-merged (λ item. item.end < length x / 4 + 1) [] items (ends_within x items are))
-
--- what is left at the end of the samples
-pub end_gives : (x : List ℤ) (items rest : List Candidate) → AreHeard x items
-    → below (settled (length x)) (merged items) ++ rest ≡ merged items
-    → AreMergedBetween (settled (length x)) (length x / 4 + 1) x rest
-end_gives x items rest are total = record {
-  candidates = items;
-  are = are;
-  is = next_is (settled (length x)) (length x / 4 + 1) (below (settled (length x)) (merged items)) rest (merged items)
-      (omega arith) (rising_heard x items are) refl
-      (total ∙ sym (below_all_of x items are));
-}
 
 -- ---- more samples
 
@@ -151,33 +134,24 @@ module _ (x y : List ℤ) (items all : List Candidate) (are : AreHeard x items) 
       (rest_small x y items late added are late_are added_are) kept)
       ∙ ap (λ t. below to (merged t)) same
 
-  pub between_still : (from to : ℕ) → from ≤ to → to ≤ settled (length x)
-      → between from to (merged items) ≡ between from to (merged all)
-  between_still from to le within =
-      append_cancel_left (below from (merged all)) (between from to (merged items)) (between from to (merged all))
-      (ap (λ t. t ++ between from to (merged items)) (sym (below_still from (omega arith)))
-      ∙ below_between from to (merged items) le (rising_heard x items are)
-      ∙ below_still to within
-      ∙ sym (below_between from to (merged all) le (rising_heard (x ++ y) all whole)))
+-- what the 32 lanes and the added ones bring with a block is put among what was heard
+pub adds : (x y : List ℤ) (found added : List Candidate) → AreCandidatesAfter (length x) (x ++ y) found
+    → AreAddedAmong (places_in (length x)) (places_in (length (x ++ y))) 32 59 (x ++ y) added
+    → Adds AreHeard x (x ++ y) (found ++ added)
+adds x y found added new late puts are =
+    subst (AreHeard (x ++ y)) (sym (put_among puts (found ++ added)))
+    (heard_join x y (in_order puts) found added are new late)
 
--- the items of samples and the next ones are those of all samples
-pub join : (from middle to : ℕ) (x y : List ℤ) (items more : List Candidate) → from ≤ middle → middle ≤ to
-    → middle ≤ settled (length x)
-    → AreMergedBetween from middle x items → AreMergedBetween middle to (x ++ y) more
-    → AreMergedBetween from to (x ++ y) (items ++ more)
-join from middle to x y items more le le' within h k = record {
-  candidates = k.candidates;
-  are = k.are;
-  is = ap (λ t. t ++ more) (h.is ∙ between_still x y h.candidates k.candidates h.are k.are from middle le within)
-      ∙ ap (λ t. between from middle (merged k.candidates) ++ t) k.is
-      ∙ between_between from middle to (merged k.candidates) le le' (rising_heard (x ++ y) k.candidates k.are);
-}
-
--- those that end up to the number of samples are all
-pub all_items : (x : List ℤ) (items : List Candidate) → AreMergedBetween 0 (length x / 4 + 1) x items → AreMerged x items
-all_items x items h = record {
-  candidates = h.candidates;
-  are = h.are;
-  is = h.is ∙ between_all 0 (length x / 4 + 1) (merged h.candidates) (λ k d l. omega arith)
-      ∙ below_all_of x h.candidates h.are;
+pub is_hearing : IsHearing all_hf_hearing
+is_hearing = record {
+  some = omega arith;
+  few = omega arith;
+  none = none_heard;
+  order = heard_in_order;
+  ends = ends_within;
+  begins = refl;
+  rises = λ count more. omega arith;
+  within = λ count. omega arith;
+  near = λ count. omega arith;
+  stays = λ x y items all position are whole low. sym (below_still x y items all are whole position low);
 }

@@ -1,40 +1,12 @@
 -- What a sensitive decoder of short wave keeps, and what that stands for.
-use Rattle.std.specs.Prelude.{◌≡◌, ℕ, ℤ, List, length, Bool, false}
-use Rattle.frame_merge.specs.declared.candidate.Candidate.{Candidate}
-use Rattle.frame_merge.specs.Held.{Held as HeldMerger, StandsFor as MergerStandsFor}
-use Rattle.frame_merge.specs.Merged.{merged, below}
-use Rattle.frame_merge.specs.Order.{in_order}
-use Rattle.slicer_bank.specs.declared.progress.Progress.{Progress}
-use Rattle.hf_modem.specs.Held.{HeldBank, BankStandsFor}
-use Rattle.hf_sensitive.specs.Candidates.{AreHeard}
-use Rattle.hf_sensitive.specs.HeldBanks.{HeldBank as HeldTracking, AllStandFor}
-use Rattle.hf_sensitive.specs.MergedItems.{settled}
+use Rattle.std.specs.Prelude.{ℤ, List}
+use Rattle.block_receiver.specs.HeldReceiver.{Held, StandsFor as ReceiverStandsFor}
+use Rattle.hf_sensitive.specs.declared.decoder.AllHfLanes.{AllHfLanes}
+use Rattle.hf_sensitive.specs.Hearing.{all_hf_hearing}
 
-pub record HeldDecoder : Type 0 where
-  pub bank : HeldBank
-  pub banks : List HeldTracking
-  pub merger : HeldMerger
-  pub position : ℕ
-  pub finished : Bool
-  pub spent : Bool
-
--- how far it has come
-abbrev pub progress : HeldDecoder → Progress
-progress held = record { position = held.position; finished = held.finished; spent = held.spent }
-
--- All banks have taken these samples, and the merger all that they heard, in whatever order. It has given what is settled.
-pub record HaveTaken (bank : HeldBank) (banks : List HeldTracking) (merger : HeldMerger) (x : List ℤ) : Type 0 where
-  pub samples : BankStandsFor bank x
-  pub places : AllStandFor banks x
-  pub puts : List Candidate
-  pub candidates : List Candidate
-  pub are : AreHeard x candidates
-  pub order : in_order puts ≡ candidates
-  pub so_far : MergerStandsFor merger puts (below (settled (length x)) (merged candidates))
+abbrev pub HeldDecoder : Type 0
+HeldDecoder = Held AllHfLanes
 
 -- the decoder has taken these samples, it is not finished, and every growth that it wanted was given
-pub record StandsFor (held : HeldDecoder) (x : List ℤ) : Type 0 where
-  pub spent : held.spent ≡ false
-  pub finished : held.finished ≡ false
-  pub count : held.position ≡ length x
-  pub taken : HaveTaken held.bank held.banks held.merger x
+abbrev pub StandsFor : HeldDecoder → List ℤ → Type 0
+StandsFor held x = ReceiverStandsFor all_hf_hearing held x

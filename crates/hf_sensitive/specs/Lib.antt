@@ -4,5 +4,6 @@ pub mod Candidates
 pub mod MergedItems
 pub mod Found
 pub mod HeldBanks
+pub mod Hearing
 pub mod HeldDecoder
 pub mod Stray

@@ -13,19 +13,16 @@
 #![tactic(auto)]
 
 mod added_frame;
-mod bank_hearing;
 mod banks;
 mod decoder;
 mod laws;
-mod merging;
 mod tracking_bank;
 
 pub use added_frame::LANES;
 pub use banks::{feed_banks, new_banks};
-pub use decoder::HfSensitiveDecoder;
+pub use decoder::{AllHfLanes, BEHIND, HfSensitiveDecoder};
 pub use laws::{
     hf_sensitive_carried_frames, hf_sensitive_items_are_all, hf_sensitive_items_join,
     hf_sensitive_near_frames, one_list_of_all_hf_lanes, some_list_of_all_hf_lanes,
 };
-pub use merging::BEHIND;
 pub use tracking_bank::TrackingBank;

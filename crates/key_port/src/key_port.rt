@@ -57,7 +57,7 @@ pub trait KeyPort<O: Sink> {
     /// Writes the first command of a connection, a release, while it is lent the output. The connection need not stand
     /// yet, and then the command is early.
     fn open(&mut self, output: &O) -> KeyWrite
-        ensures told { (had : List ℕ) → O.written output.now ≡ Some had → result ≡ Whole
+        ensures told { (had : List ℕ) → (O.told output.now).written ≡ Some had → result ≡ Whole
             → (told self.new).lines ≡ option_map (with_last (after_write Release (length had))) (told self.old).lines }
         ensures only { (was : List KeyLine) → (told self.old).lines ≡ Some was → result ≡ Whole → is_open was ≡ true }
         ensures unwritten { result ≢ Whole → (told self.new).lines ≡ (told self.old).lines }
@@ -67,7 +67,7 @@ pub trait KeyPort<O: Sink> {
 
     /// Writes a later command, while it is lent the output.
     fn write(&mut self, command: Command, output: &O) -> Result<(), Failed>
-        ensures told { (had : List ℕ) → O.written output.now ≡ Some had → OnOk result
+        ensures told { (had : List ℕ) → (O.told output.now).written ≡ Some had → OnOk result
             ((told self.new).lines ≡ option_map (with_last (after_write command (length had))) (told self.old).lines) }
         ensures only { (was : List KeyLine) → (told self.old).lines ≡ Some was → OnOk result (is_open was ≡ true) }
         ensures unwritten { OnErr result ((told self.new).lines ≡ (told self.old).lines) }

@@ -84,7 +84,7 @@ impl KeySide {
         output: &O,
     ) -> KeyReports
         ensures turned { (words : Words) (octets : ℕ) (keyed : List KeyEvent) → HasDone words keyed self.old
-            → (came : List ℕ) × (end : Option End) × DoesCall words octets (O.written output.now)
+            → (came : List ℕ) × (end : Option End) × DoesCall words octets (O.told output.now).written
             (TurnCall (K.time key.new) came end) keyed (reports_in result) self.new (K.told key.old) (K.told key.new) }
         ensures port { port_of self.new ≡ port_of self.old }
         ensures forward { K.time key.old ≤ K.time key.new }
@@ -106,7 +106,7 @@ impl KeySide {
         output: &O,
     ) -> KeyReports
         ensures ticked { (words : Words) (octets : ℕ) (keyed : List KeyEvent) → HasDone words keyed self.old
-            → DoesCall words octets (O.written output.now) (Tick sounds) keyed (reports_in result) self.new
+            → DoesCall words octets (O.told output.now).written (Tick sounds) keyed (reports_in result) self.new
             (K.told key.old) (K.told key.new) }
         ensures port { port_of self.new ≡ port_of self.old }
         ensures time { K.time key.new ≡ K.time key.old }
@@ -124,7 +124,7 @@ impl KeySide {
         output: &O,
     ) -> KeyReports
         ensures written { (words : Words) (octets : ℕ) (keyed : List KeyEvent) → HasDone words keyed self.old
-            → DoesCall words octets (O.written output.now) (AfterWrite fault) keyed (reports_in result) self.new
+            → DoesCall words octets (O.told output.now).written (AfterWrite fault) keyed (reports_in result) self.new
             (K.told key.old) (K.told key.new) }
         ensures port { port_of self.new ≡ port_of self.old }
         ensures time { K.time key.new ≡ K.time key.old }
@@ -143,7 +143,7 @@ impl KeySide {
         output: &O,
     )
         ensures released { (words : Words) (octets : ℕ) (keyed : List KeyEvent) → HasDone words keyed self.old
-            → DoesRelease words octets (O.written output.now) keyed self.new (K.told key.old) (K.told key.new) }
+            → DoesRelease words octets (O.told output.now).written keyed self.new (K.told key.old) (K.told key.new) }
         ensures port { port_of self.new ≡ port_of self.old }
     {
         'asks: for _ in rt.forever() {
@@ -159,7 +159,7 @@ impl KeySide {
     fn close<R: Net, O: Sink, K: KeyPort<O>>(&mut self, rt: &R, key: &mut K, output: &O) -> bool
         ensures closed { (words : Words) (octets : ℕ) (keyed : List KeyEvent) → HasDone words keyed self.old
             → GoesOn (λ new. Closes words octets keyed new × (result ≡ true → IsOver words new)) words octets
-            (O.written output.now) keyed self.new (K.told key.old) (K.told key.new) }
+            (O.told output.now).written keyed self.new (K.told key.old) (K.told key.new) }
         ensures port { port_of self.new ≡ port_of self.old }
     {
         let now = key.now();
@@ -181,7 +181,8 @@ impl KeySide {
     ) -> Option<Why>
         ensures does { (words : Words) (octets : ℕ) (events : List KeyEvent)
             → IsDoing words (tasks_of_next next) events self.old.machine
-            → DoesTasks words self.old.port octets (O.written output.now) events (lost_report result) self.new.machine
+            → DoesTasks words self.old.port octets (O.told output.now).written events
+            (lost_report result) self.new.machine
             (K.told key.old) (K.told key.new) }
         ensures port { self.new.port ≡ self.old.port }
         ensures time { K.time key.new ≡ K.time key.old }
@@ -203,7 +204,8 @@ impl KeySide {
     ) -> Option<Why>
         ensures does { (words : Words) (octets : ℕ) (events : List KeyEvent) (tasks : List Task)
             → IsDoing words (Connect ∷ tasks) events self.old.machine
-            → DoesTasks words self.old.port octets (O.written output.now) events (lost_report result) self.new.machine
+            → DoesTasks words self.old.port octets (O.told output.now).written events
+            (lost_report result) self.new.machine
             (K.told key.old) (K.told key.new) }
         ensures port { self.new.port ≡ self.old.port }
         ensures time { K.time key.new ≡ K.time key.old }
@@ -218,7 +220,8 @@ impl KeySide {
     fn open<O: Sink, K: KeyPort<O>>(&mut self, key: &mut K, output: &O) -> Option<Why>
         ensures does { (words : Words) (octets : ℕ) (events : List KeyEvent) (tasks : List Task)
             → IsDoing words (Open ∷ tasks) events self.old.machine
-            → DoesTasks words self.old.port octets (O.written output.now) events (lost_report result) self.new.machine
+            → DoesTasks words self.old.port octets (O.told output.now).written events
+            (lost_report result) self.new.machine
             (K.told key.old) (K.told key.new) }
         ensures port { self.new.port ≡ self.old.port }
         ensures time { K.time key.new ≡ K.time key.old }
@@ -253,7 +256,8 @@ impl KeySide {
     ) -> Option<Why>
         ensures does { (words : Words) (octets : ℕ) (events : List KeyEvent)
             → IsDoing words (tasks_of_command command) events self.old.machine
-            → DoesTasks words self.old.port octets (O.written output.now) events (lost_report result) self.new.machine
+            → DoesTasks words self.old.port octets (O.told output.now).written events
+            (lost_report result) self.new.machine
             (K.told key.old) (K.told key.new) }
         ensures port { self.new.port ≡ self.old.port }
         ensures time { K.time key.new ≡ K.time key.old }
@@ -273,7 +277,8 @@ impl KeySide {
     ) -> Option<Why>
         ensures does { (words : Words) (octets : ℕ) (events : List KeyEvent) (tasks : List Task)
             → IsDoing words (Write command ∷ tasks) events self.old.machine
-            → DoesTasks words self.old.port octets (O.written output.now) events (lost_report result) self.new.machine
+            → DoesTasks words self.old.port octets (O.told output.now).written events
+            (lost_report result) self.new.machine
             (K.told key.old) (K.told key.new) }
         ensures port { self.new.port ≡ self.old.port }
         ensures time { K.time key.new ≡ K.time key.old }

@@ -7,7 +7,7 @@ use Rattle.live_receiver.proofs.Common.{IfSome, option_map, option_to_list, end_
 use Rattle.std.proofs.lemmas.List.Elements.{All-cons}
 use Rattle.hf_modem.specs.Held.{HeldBank, BankStandsFor}
 use Rattle.hf_sensitive.specs.Found.{CanBePutFrom, least_end}
-use Rattle.hf_sensitive.proofs.HearingLemmas.{HasHeard, heard_more, heard_none}
+use Rattle.hf_modem.proofs.HearingLemmas.{HasHeard, heard_more, heard_none}
 use Rattle.live_receiver.proofs.HeardLemmas.{placed_is}
 use Rattle.live_receiver.proofs.MergeLemmas.{lanes_at_least}
 

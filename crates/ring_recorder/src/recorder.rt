@@ -144,13 +144,13 @@ impl Recorder {
 
     /// Writes the sound as a WAV file.
     pub fn write<O: Sink>(&self, output: &mut O) -> Result<(), Failed>
-        ensures appends { (before : List ℕ) → O.written output.old ≡ Some before
-            → OnOk result (O.written output.new ≡ Some (before ++ wave_of self.now.sound)) }
-        ensures partly { (before : List ℕ) → O.written output.old ≡ Some before
-            → OnErr result (WrotePart before (wave_of self.now.sound) (O.written output.new)) }
-        ensures later { O.faults output.old ≤ O.faults output.new }
-        ensures faultless { OnOk result (O.faults output.new ≡ O.faults output.old) }
-        ensures failed { OnErr result (HasRisen (O.faults output.old) (O.faults output.new)) }
+        ensures appends { (before : List ℕ) → (O.told output.old).written ≡ Some before
+            → OnOk result ((O.told output.new).written ≡ Some (before ++ wave_of self.now.sound)) }
+        ensures partly { (before : List ℕ) → (O.told output.old).written ≡ Some before
+            → OnErr result (WrotePart before (wave_of self.now.sound) (O.told output.new).written) }
+        ensures later { (O.told output.old).faults ≤ (O.told output.new).faults }
+        ensures faultless { OnOk result ((O.told output.new).faults ≡ (O.told output.old).faults) }
+        ensures failed { OnErr result (HasRisen (O.told output.old).faults (O.told output.new).faults) }
     {
         let Ok(head) = wav_head(self.sound.len() as u64) else {
             unreachable!()

@@ -12,13 +12,13 @@ const PIECE: usize = 4096;
 
 /// Writes samples, each with its low octet first.
 pub(crate) fn write_samples<O: Sink>(output: &mut O, samples: &[i16]) -> Result<(), Failed>
-    ensures appends { (before : List ℕ) → O.written output.old ≡ Some before
-        → OnOk result (O.written output.new ≡ Some (before ++ octets_of samples.now)) }
-    ensures partly { (before : List ℕ) → O.written output.old ≡ Some before
-        → OnErr result (WrotePart before (octets_of samples.now) (O.written output.new)) }
-    ensures later { O.faults output.old ≤ O.faults output.new }
-    ensures faultless { OnOk result (O.faults output.new ≡ O.faults output.old) }
-    ensures failed { OnErr result (HasRisen (O.faults output.old) (O.faults output.new)) }
+    ensures appends { (before : List ℕ) → (O.told output.old).written ≡ Some before
+        → OnOk result ((O.told output.new).written ≡ Some (before ++ octets_of samples.now)) }
+    ensures partly { (before : List ℕ) → (O.told output.old).written ≡ Some before
+        → OnErr result (WrotePart before (octets_of samples.now) (O.told output.new).written) }
+    ensures later { (O.told output.old).faults ≤ (O.told output.new).faults }
+    ensures faultless { OnOk result ((O.told output.new).faults ≡ (O.told output.old).faults) }
+    ensures failed { OnErr result (HasRisen (O.told output.old).faults (O.told output.new).faults) }
 {
     let mut rest = samples;
     'pieces: while !rest.is_empty() {
@@ -32,13 +32,13 @@ pub(crate) fn write_samples<O: Sink>(output: &mut O, samples: &[i16]) -> Result<
 /// Writes samples of at most one piece.
 fn write_piece<O: Sink>(output: &mut O, samples: &[i16]) -> Result<(), Failed>
     requires { length samples.now ≤ 4096 }
-    ensures appends { (before : List ℕ) → O.written output.old ≡ Some before
-        → OnOk result (O.written output.new ≡ Some (before ++ octets_of samples.now)) }
-    ensures partly { (before : List ℕ) → O.written output.old ≡ Some before
-        → OnErr result (WrotePart before (octets_of samples.now) (O.written output.new)) }
-    ensures later { O.faults output.old ≤ O.faults output.new }
-    ensures faultless { OnOk result (O.faults output.new ≡ O.faults output.old) }
-    ensures failed { OnErr result (HasRisen (O.faults output.old) (O.faults output.new)) }
+    ensures appends { (before : List ℕ) → (O.told output.old).written ≡ Some before
+        → OnOk result ((O.told output.new).written ≡ Some (before ++ octets_of samples.now)) }
+    ensures partly { (before : List ℕ) → (O.told output.old).written ≡ Some before
+        → OnErr result (WrotePart before (octets_of samples.now) (O.told output.new).written) }
+    ensures later { (O.told output.old).faults ≤ (O.told output.new).faults }
+    ensures faultless { OnOk result ((O.told output.new).faults ≡ (O.told output.old).faults) }
+    ensures failed { OnErr result (HasRisen (O.told output.old).faults (O.told output.new).faults) }
 {
     let mut room = [0; 2 * PIECE];
     let octets = &mut room[..2 * samples.len()];

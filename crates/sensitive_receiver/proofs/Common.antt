@@ -12,17 +12,15 @@ pub use Rattle.sensitive_receiver.specs.AddedCandidates.{EndsAtPlace, HasPath, i
 pub use Rattle.sensitive_receiver.specs.Candidates.{AreHeard, IsHeard}
 pub use Rattle.sensitive_receiver.specs.Found.{AddsAmong, AddsAt, AddsIn, AreAddedBetween, AreAddedIn, HasRoomFrom}
 pub use Rattle.sensitive_receiver.specs.Hearing.{LanesHear}
-pub use Rattle.sensitive_receiver.specs.HeldDecoder.{HaveTaken, HeldDecoder, StandsFor}
 pub use Rattle.sensitive_receiver.specs.HeldLanes.{HeldLane, LaneStandsFor}
 pub use Rattle.sensitive_receiver.specs.HeldList.{HasDecided, HasRead, HeldList, IsLastPlace, LanesAreAt, LanesHaveRead, LastIsRead}
 unfoldable pub use Rattle.sensitive_receiver.specs.Lanes.{lane_tones, readings_at}
 pub use Rattle.sensitive_receiver.specs.Lanes.{delay_of, is_read_at, is_read_by, lane_bits, list_of, tone_back}
 pub use Rattle.sensitive_receiver.specs.Lanes.{Readings, added_places, tone_read, tones}
 pub use Rattle.sensitive_receiver.specs.ListLanes.{IsSlowOn, first_slow, lane_of}
-pub use Rattle.sensitive_receiver.specs.MergedItems.{AreMergedBetween, settled}
+pub use Rattle.sensitive_receiver.specs.MergedItems.{settled}
 pub use Rattle.sensitive_receiver.specs.declared.decided_place.DecidedPlace.{DecidedPlace}
 pub use Rattle.slicer_bank.proofs.CandidateLemmas.{AllPairs-append, end_within}
-pub use Rattle.slicer_bank.proofs.MergedLemmas.{next_is}
 pub use Rattle.slicer_bank.proofs.OrderingLemmas.{below_more}
 pub use Rattle.slicer_bank.specs.Candidates.{AreCandidatesAfter, IsCandidate}
 pub use Rattle.slicer_bank.specs.Held.{HeldBank}

@@ -18,7 +18,6 @@ pub mod FarFrames
 pub mod FewKept
 pub mod HeardLemmas
 pub mod MergedLemmas
-pub mod DecoderLemmas
 pub mod NameDecided
 pub mod PathDecided
 pub mod SomeList

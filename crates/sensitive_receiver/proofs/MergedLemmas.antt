@@ -1,26 +1,26 @@
--- What is given of samples, and of these with more samples.
+-- What all lanes hear obeys the laws of a receiver.
 use Rattle.sensitive_receiver.proofs.Common.{◌≡◌, ℕ, ◌+◌, ◌-◌, ◌<◌, ◌≤◌, Bool, true, ℤ, List, [], ◌∷◌, ◌++◌, length}
-use Rattle.sensitive_receiver.proofs.Common.{get_or, refl, inl, inr, ap, sym, ◌∙◌, arith, nat_le, nat_lt, ◌&&◌, All}
-use Rattle.sensitive_receiver.proofs.Common.{ltb-true, leb-true, lt-ltb, and_parts, All-weaker, All-head, All-tail}
+use Rattle.sensitive_receiver.proofs.Common.{get_or, refl, inl, inr, ap, sym, subst, ◌∙◌, arith, nat_le, nat_lt, ◌&&◌}
+use Rattle.sensitive_receiver.proofs.Common.{All, All-append, ltb-true, leb-true, lt-ltb, and_parts, All-weaker}
 use Rattle.sensitive_receiver.proofs.Common.{All-filter, filter_passes, AllPairs-filter, Candidate, standing, merged}
-use Rattle.sensitive_receiver.proofs.Common.{below, not_below, IsCandidate, AreCandidatesAfter, next_is, below_more}
+use Rattle.sensitive_receiver.proofs.Common.{in_order, below, IsCandidate, AreCandidatesAfter, below_more}
 use Rattle.sensitive_receiver.proofs.Common.{added_places, delay_of, EndsAtPlace, IsHeard, AreHeard, AreAddedBetween}
-use Rattle.sensitive_receiver.proofs.Common.{settled, AreMergedBetween}
-use Rattle.std.proofs.Common.{cond}
+use Rattle.sensitive_receiver.proofs.Common.{settled}
 use Rattle.std.specs.List.{filter}
 use Rattle.std.specs.List.Sorted.{IsNonDecreasingBy}
-use Rattle.std.proofs.lemmas.Bool.{le-leb, lt-leb}
-use Rattle.std.proofs.lemmas.List.{append_cancel_left}
-use Rattle.frame_merge.specs.Merged.{between}
+use Rattle.std.proofs.lemmas.Bool.{le-leb}
 use Rattle.frame_merge.proofs.Ordering.{rising_ends}
-use Rattle.frame_merge.proofs.Merging.{merged-rising, below_between, between_all, All-merged}
-use Rattle.frame_merge.proofs.Taking.{below_all}
-use Rattle.slicer_bank.proofs.MergedLemmas.{contains_passing, between_between}
+use Rattle.frame_merge.proofs.Merging.{merged-rising}
+use Rattle.block_receiver.specs.Hearing.{IsHearing, Adds, CanBePutFrom as CanBePutOfFrom}
+use Rattle.block_receiver.proofs.AddingLemmas.{put_among}
+use Rattle.slicer_bank.specs.Merging.{AllPast, CanBePut as CanBePutOfEight}
+use Rattle.slicer_bank.proofs.MergedLemmas.{contains_passing}
 use Rattle.slicer_bank.proofs.OneList.{same_list}
-use Rattle.sensitive_receiver.specs.MergedItems.{AreMerged}
+use Rattle.sensitive_receiver.specs.AllHearing.{hearing_of_all}
+use Rattle.sensitive_receiver.specs.Found.{HasRoom, IsAddedFrom}
 use Rattle.sensitive_receiver.proofs.FewKept.{heard_within}
 use Rattle.sensitive_receiver.proofs.FoundLemmas.{delay_small}
-use Rattle.sensitive_receiver.proofs.HeardLemmas.{all_of, heard_join, rest_late, rest_small, heard_in_order}
+use Rattle.sensitive_receiver.proofs.HeardLemmas.{all_of, heard_join, none_heard, rest_late, rest_small, heard_in_order}
 
 -- samples have one list of candidates
 pub one_list : (x : List ℤ) (items others : List Candidate) → AreHeard x items → AreHeard x others → items ≡ others
@@ -36,38 +36,6 @@ rising_heard x items are = merged-rising (λ item. item.end) [] items (rising_en
 -- each ends within the samples
 ends_within : (x : List ℤ) (items : List Candidate) → AreHeard x items → All (λ item. item.end < length x + 1) items
 ends_within x items are k d l = let within = heard_within x (get_or items k d) (are.each k d l) in omega arith
-
-below_all_of : (x : List ℤ) (items : List Candidate) → AreHeard x items
-    → below (length x + 1) (merged items) ≡ merged items
-below_all_of x items are = below_all (length x + 1) (merged items)
-    (All-merged (λ item. item.end < length x + 1) [] items (ends_within x items are))
-
--- what is left at the end of the samples
-pub end_gives : (x : List ℤ) (items rest : List Candidate) → AreHeard x items
-    → below (settled (length x)) (merged items) ++ rest ≡ merged items
-    → AreMergedBetween (settled (length x)) (length x + 1) x rest
-end_gives x items rest are total = record {
-  candidates = items;
-  are = are;
-  is = next_is (settled (length x)) (length x + 1) (below (settled (length x)) (merged items)) rest (merged items)
-      (omega arith) (rising_heard x items are) refl
-      (total ∙ sym (below_all_of x items are));
-}
-
--- past the last end nothing is kept
-not_below_none : (position : ℕ) (xs : List Candidate) → All (λ y. y.end < position) xs → not_below position xs ≡ []
-not_below_none position [] h = refl
-not_below_none position (x ∷ xs) h =
-    ap (λ t. cond t (x ∷ not_below position xs) (not_below position xs))
-    (lt-leb position x.end (All-head (λ y. y.end < position) x xs h))
-    ∙ not_below_none position xs (All-tail (λ y. y.end < position) x xs h)
-
-pub nothing_kept : (position : ℕ) (x : List ℤ) (items : List Candidate) → length x < position → AreHeard x items
-    → not_below position items ≡ []
-nothing_kept position x items far are =
-    not_below_none position items
-    (All-weaker (λ item. item.end < length x + 1) (λ item. item.end < position) (λ item l. omega arith) items
-    (ends_within x items are))
 
 -- ---- more samples
 
@@ -165,33 +133,44 @@ module _ (x y : List ℤ) (items all : List Candidate) (are : AreHeard x items) 
       (rest_small x y items late added are late_are added_are) kept)
       ∙ ap (λ t. below to (merged t)) same
 
-  pub between_still : (from to : ℕ) → from ≤ to → to ≤ settled (length x)
-      → between from to (merged items) ≡ between from to (merged all)
-  between_still from to le within =
-      append_cancel_left (below from (merged all)) (between from to (merged items)) (between from to (merged all))
-      (ap (λ t. t ++ between from to (merged items)) (sym (below_still from (omega arith)))
-      ∙ below_between from to (merged items) le (rising_heard x items are)
-      ∙ below_still to within
-      ∙ sym (below_between from to (merged all) le (rising_heard (x ++ y) all whole)))
+-- what the eight lanes and the added ones bring with a block is put among what was heard
+pub adds : (x y : List ℤ) (found added all : List Candidate) → all ≡ found ++ added
+    → AreCandidatesAfter (length x) (x ++ y) found
+    → AreAddedBetween (added_places (length x)) (added_places (length (x ++ y))) (x ++ y) added
+    → Adds AreHeard x (x ++ y) all
+adds x y found added all is new late = subst (Adds AreHeard x (x ++ y)) (sym is) (λ puts are.
+    subst (AreHeard (x ++ y)) (sym (put_among puts (found ++ added)))
+    (heard_join x y (in_order puts) found added are new late))
 
--- the items of samples and the next ones are those of all samples
-pub join : (from middle to : ℕ) (x y : List ℤ) (items more : List Candidate) → from ≤ middle → middle ≤ to
-    → middle ≤ settled (length x)
-    → AreMergedBetween from middle x items → AreMergedBetween middle to (x ++ y) more
-    → AreMergedBetween from to (x ++ y) (items ++ more)
-join from middle to x y items more le le' within h k = record {
-  candidates = k.candidates;
-  are = k.are;
-  is = ap (λ t. t ++ more) (h.is ∙ between_still x y h.candidates k.candidates h.are k.are from middle le within)
-      ∙ ap (λ t. between from middle (merged k.candidates) ++ t) k.is
-      ∙ between_between from middle to (merged k.candidates) le le' (rising_heard (x ++ y) k.candidates k.are);
-}
+-- and can be put into a merger that is marked where the block began
+pub can_be_put : (position eight_at added_at : ℕ) (found added all : List Candidate) → all ≡ found ++ added
+    → eight_at ≡ position → added_at ≡ position → All CanBePutOfEight found → AllPast eight_at found
+    → All HasRoom added → All (IsAddedFrom (added_at - 32)) added
+    → All (CanBePutOfFrom 26 (settled position)) all
+can_be_put position eight_at added_at found added all is eight_is added_is fits past room late =
+    subst (All (CanBePutOfFrom 26 (settled position))) (sym is)
+    (All-append (CanBePutOfFrom 26 (settled position)) found added
+    (λ k d l.
+    let can = fits k d l in
+    let lane = can.lane in
+    let following = past k d l in
+    record { can = record { lane = omega arith; end = can.end }; from = omega arith })
+    (λ k d l.
+    let has = room k d l in
+    let end = has.end in
+    let from = (late k d l).end in
+    record { can = record { lane = has.lane; end = omega arith }; from = omega arith }))
 
--- those that end up to the number of samples are all
-pub all_items : (x : List ℤ) (items : List Candidate) → AreMergedBetween 0 (length x + 1) x items → AreMerged x items
-all_items x items h = record {
-  candidates = h.candidates;
-  are = h.are;
-  is = h.is ∙ between_all 0 (length x + 1) (merged h.candidates) (λ k d l. omega arith)
-      ∙ below_all_of x h.candidates h.are;
+pub is_hearing : IsHearing hearing_of_all
+is_hearing = record {
+  some = omega arith;
+  few = omega arith;
+  none = none_heard;
+  order = heard_in_order;
+  ends = ends_within;
+  begins = refl;
+  rises = λ count more. omega arith;
+  within = λ count. omega arith;
+  near = λ count. omega arith;
+  stays = λ x y items all position are whole low. sym (below_still x y items all are whole position low);
 }

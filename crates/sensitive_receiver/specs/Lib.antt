@@ -10,6 +10,7 @@ pub mod FastLane
 pub mod Found
 pub mod Hearing
 pub mod FiveBanks
+pub mod AllHearing
 pub mod HeldDecoder
 pub mod Stray
 pub mod LateLanes

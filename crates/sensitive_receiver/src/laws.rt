@@ -11,6 +11,7 @@ ghost use Rattle.clean_signal.specs.Stray.{is_sent};
 ghost use Rattle.clean_signal.specs.Carried.{CarriesAll};
 ghost use Rattle.clean_signal.specs.NearSignal.{Received, IsReceived, IsNearAll, transmissions_of};
 ghost use Rattle.sensitive_receiver.specs.Candidates.{AreHeard};
+ghost use Rattle.sensitive_receiver.specs.HeldDecoder.{HeldDecoder, StandsFor};
 ghost use Rattle.sensitive_receiver.specs.MergedItems.{AreMerged, AreMergedBetween, settled};
 ghost use Rattle.sensitive_receiver.specs.Stray.{NoneStray, MergesTo};
 
@@ -35,6 +36,11 @@ pub fn sensitive_items_join()
 /// The items that end up to the number of samples are all.
 pub fn sensitive_items_are_all()
     ensures { (x : List ℤ) (items : List Candidate) → AreMergedBetween 0 (length x + 1) x items → AreMerged x items }
+{}
+
+/// A decoder keeps at most one candidate of each lane.
+pub fn a_sensitive_decoder_keeps_few()
+    ensures { (held : HeldDecoder) (x : List ℤ) → StandsFor held x → length held.merger.items ≤ 26 }
 {}
 
 /// Samples near a signal give the frames that were sent, each once, in order, if no candidate of any lane is stray.

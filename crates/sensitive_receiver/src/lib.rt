@@ -31,10 +31,11 @@ mod pieces;
 mod reading;
 
 pub use added_bank::AddedBank;
-pub use decoder::SensitiveDecoder;
+pub use decoder::{AllLanes, AllOnThreads, SensitiveDecoder};
 pub use lanes::{LANES, delay_of};
 pub use laws::{
-    one_list_of_all_lanes, sensitive_carried_frames, sensitive_items_are_all, sensitive_items_join,
-    sensitive_level_frames, sensitive_near_frames, sensitive_none_stray, some_list_of_all_lanes,
+    a_sensitive_decoder_keeps_few, one_list_of_all_lanes, sensitive_carried_frames,
+    sensitive_items_are_all, sensitive_items_join, sensitive_level_frames, sensitive_near_frames,
+    sensitive_none_stray, some_list_of_all_lanes,
 };
 pub use merging::put_all;

@@ -34,8 +34,7 @@ pub use Rattle.slicer_bank.specs.Heard.{Adds, AreOfWindows, HearsAlone, LaneHear
 pub use Rattle.slicer_bank.specs.Heard.{candidate_at}
 pub use Rattle.slicer_bank.specs.HeardOnRing.{IsBusyOnRing, IsHeardIn, IsHeardOnRing, lane_of, lane_positions}
 pub use Rattle.slicer_bank.specs.Held.{AsksFor, HeldBank, HeldLane, LaneStandsFor, LanesStandFor, last_seven, silence}
-pub use Rattle.slicer_bank.specs.HeldDecoder.{HaveTaken, HeldDecoder, StandsFor}
-pub use Rattle.slicer_bank.specs.MergedItems.{AreMergedBetween}
+pub use Rattle.slicer_bank.specs.HeldDecoder.{HeldDecoder, StandsFor}
 pub use Rattle.slicer_bank.specs.Merging.{AllPast, CanBePut, CanBePutPast}
 pub use Rattle.slicer_bank.specs.RingJobs.{AreHeardPast, AreInPlace, EndsWithGot, IsAlike, IsTaken, LanesAreReady}
 pub use Rattle.slicer_bank.specs.RingJobs.{MadeTurn}

@@ -9,7 +9,6 @@ pub mod SomeList
 pub mod MergingLemmas
 pub mod MergedLemmas
 pub mod FewKept
-pub mod DecoderLemmas
 pub mod OwnLemmas
 pub mod GatheringLemmas
 pub mod BankGatheringLemmas

@@ -7,6 +7,7 @@ pub mod Merging
 pub mod Heard
 pub mod MergedItems
 pub mod Progress
+pub mod Hearing
 pub mod HeldDecoder
 pub mod Stretches
 pub mod Detection

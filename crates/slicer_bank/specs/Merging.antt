@@ -1,5 +1,6 @@
 -- What may be put into a merger of eight lanes.
-use Rattle.std.specs.Prelude.{ℕ, ◌<◌, ◌≤◌, ◌-◌, ◌^◌, List, slice_index}
+pub use Rattle.block_receiver.specs.Hearing.{AreInTime}
+use Rattle.std.specs.Prelude.{ℕ, ◌<◌, ◌-◌, ◌^◌, List}
 use Rattle.std.specs.List.{All}
 use Rattle.frame_merge.specs.declared.candidate.Candidate.{Candidate}
 
@@ -16,7 +17,3 @@ pub record CanBePutPast (position : ℕ) (item : Candidate) : Type 0 where
 -- each candidate ends past a position
 abbrev pub AllPast : ℕ → List Candidate → Type 0
 AllPast position items = All (λ item. position < item.end) items
-
--- no candidate ends below the mark of its lane
-abbrev pub AreInTime : List ℕ → List Candidate → Type 0
-AreInTime marks items = All (λ item. slice_index marks item.offset ≤ item.end) items

@@ -7,6 +7,7 @@ ghost use Rattle.frame_merge.specs.declared.candidate.Candidate.{Candidate};
 ghost use Rattle.slicer_bank.specs.Candidates.{AreCandidates, AreCandidatesAfter};
 ghost use Rattle.slicer_bank.specs.declared.detection.Detection.TheVariants.{Tones};
 ghost use Rattle.slicer_bank.specs.HeardOnRing.{IsBusyOnRing, lane_of};
+ghost use Rattle.slicer_bank.specs.HeldDecoder.{HeldDecoder, StandsFor};
 ghost use Rattle.slicer_bank.specs.Stretches.{Stretch, last_stretch};
 ghost use Rattle.slicer_bank.specs.MergedItems.{AreMerged, AreMergedBetween};
 
@@ -34,6 +35,11 @@ pub fn items_join()
 /// The items that end up to the number of samples are all.
 pub fn items_are_all()
     ensures { (x : List ℤ) (items : List Candidate) → AreMergedBetween 0 (length x + 1) x items → AreMerged x items }
+{}
+
+/// A decoder keeps at most one candidate of each lane.
+pub fn a_decoder_keeps_few()
+    ensures { (held : HeldDecoder) (x : List ℤ) → StandsFor held x → length held.merger.items ≤ 8 }
 {}
 
 /// Lanes that have all heard one stretch are busy by tones exactly if the samples of that stretch have tones.

@@ -18,7 +18,6 @@ mod job;
 mod lane;
 mod laws;
 mod merging;
-mod progress;
 mod ring_bank;
 mod ring_lane;
 mod ring_lanes;
@@ -33,16 +32,17 @@ mod window_hearing;
 
 pub use advance::{Advance, LaneGap};
 pub use bank::Bank;
-pub use decoder::Decoder;
+pub use block_receiver::Progress;
+pub use decoder::{Decoder, OnThreads};
 pub use detection::Detection;
 pub use eight::{octet_of, tones_of};
 pub use existence::some_list_of_candidates;
 pub use gate::{Gate, OpenGate};
 pub use laws::{
-    blocks_join, items_are_all, items_join, one_list_of_candidates, one_stretch_has_tones,
+    a_decoder_keeps_few, blocks_join, items_are_all, items_join, one_list_of_candidates,
+    one_stretch_has_tones,
 };
 pub use merging::merge;
-pub use progress::Progress;
 pub use ring_bank::RingBank;
 pub use ring_merging::{merge_advance, nothing_is_merged};
 pub use seven::{bridge, keep_last};

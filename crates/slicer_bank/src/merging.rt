@@ -1,16 +1,12 @@
 //! From candidates to the items that are given: each frame once, and in order.
 
-ghost use Rattle.std.specs.Prelude.{◌≡◌, ◌+◌, ◌<◌, ◌^◌, ℤ, List, ◌++◌, length, replicate, IfOk, OnOk};
+ghost use Rattle.std.specs.Prelude.{◌≡◌, ◌<◌, List, ◌++◌, length, IfOk, OnOk};
 ghost use Rattle.std.specs.List.{All, AllPairs};
 ghost use Rattle.frame_merge.specs.declared.candidate.Candidate.{Candidate};
 ghost use Rattle.frame_merge.specs.Held.{StandsFor};
 ghost use Rattle.frame_merge.specs.Merged.{merged};
 ghost use Rattle.frame_merge.specs.Order.{standing};
-ghost use Rattle.slicer_bank.specs.Candidates.{AreCandidatesAfter};
-ghost use Rattle.slicer_bank.specs.Held.{HeldBank, StandsFor as BankStandsFor};
-ghost use Rattle.slicer_bank.specs.HeldDecoder.{HaveTaken};
-ghost use Rattle.slicer_bank.specs.MergedItems.{AreMergedBetween};
-ghost use Rattle.slicer_bank.specs.Merging.{CanBePut, AllPast, AreInTime};
+ghost use Rattle.slicer_bank.specs.Merging.{CanBePut, AreInTime};
 
 use frame_merge::{Candidate, Merger};
 use std::alloc::Global;
@@ -29,31 +25,6 @@ pub fn merge(alloc: Global, candidates: Vec<Candidate>) -> Result<Vec<Candidate>
     put_all(&mut merger, candidates)?;
     merger.finish();
     merger.take_ready()
-}
-
-/// Gives what a bank heard in a block of `count` samples to a merger whose lanes are marked at `position`, where the
-/// block began. Tells the items that are settled by the block.
-pub(crate) fn merge_block(
-    merger: &mut Merger,
-    position: u64,
-    count: usize,
-    found: Vec<Candidate>,
-) -> Result<Vec<Candidate>, OutOfMemory>
-    requires room { position + count < 2 ^ 48 }
-    requires items { All CanBePut found.items }
-    requires past { AllPast position found.items }
-    requires marks { merger.old.marks ≡ replicate 8 position }
-    ensures given { IfOk result (λ ready. (before after : HeldBank) (x y : List ℤ) → length x ≡ position → length y
-        ≡ count
-        → (BankStandsFor before x → BankStandsFor after (x ++ y) × AreCandidatesAfter (length x) (x ++ y) found.items)
-        → HaveTaken before merger.old x
-        → HaveTaken after merger.new (x ++ y) × AreMergedBetween (length x) (length (x ++ y)) (x ++ y) ready.items) }
-    ensures marks { OnOk result (merger.new.marks ≡ replicate 8 (position + count)) }
-{
-    put_all(merger, found)?;
-    merger.mark_all(position + count as u64);
-    let ready = merger.take_ready()?;
-    Ok(ready)
 }
 
 /// Puts candidates into a merger of eight lanes, in their order.

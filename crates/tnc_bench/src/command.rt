@@ -23,9 +23,10 @@ pub fn bench<O: Sink>(
 ) -> Result<(), CommandFault>
     requires { AreInRange (words_of options) }
     // what is written
-    ensures done { (before : List ℕ) → O.written output.old ≡ Some before
-        → OnOk result ((text : List ℕ) × IsReportOf options text × (O.written output.new ≡ Some (before ++ text))) }
-    ensures faultless { OnOk result (O.faults output.new ≡ O.faults output.old) }
+    ensures done { (before : List ℕ) → (O.told output.old).written ≡ Some before
+        → OnOk result ((text : List ℕ) × IsReportOf options text
+        × ((O.told output.new).written ≡ Some (before ++ text))) }
+    ensures faultless { OnOk result ((O.told output.new).faults ≡ (O.told output.old).faults) }
 
     // what ended the run before it was over
     ensures fault { (fault : BenchFault) → IsErrOf result (CommandFault.Run fault)
@@ -33,9 +34,9 @@ pub fn bench<O: Sink>(
     ensures unwritten { (fault : BenchFault) → IsErrOf result (CommandFault.Run fault) → output.new ≡ output.old }
 
     // a write that failed, and what stands after it
-    ensures write { IsErrOf result CommandFault.Write → HasRisen (O.faults output.old) (O.faults output.new) }
-    ensures cut { (before : List ℕ) → O.written output.old ≡ Some before → IsErrOf result CommandFault.Write
-        → (text : List ℕ) × IsReportOf options text × WrotePart before text (O.written output.new) }
+    ensures write { IsErrOf result CommandFault.Write → HasRisen (O.told output.old).faults (O.told output.new).faults }
+    ensures cut { (before : List ℕ) → (O.told output.old).written ≡ Some before → IsErrOf result CommandFault.Write
+        → (text : List ℕ) × IsReportOf options text × WrotePart before text (O.told output.new).written }
 {
     let report = channel_bench::bench(alloc, bench_words(options))?;
     let text = report_text(alloc, &report)?;

@@ -26,14 +26,13 @@ pub fn call<R: Net, I: Source, O: Sink, N: Ports>(
     output: &mut O,
     ports: &mut N,
 ) -> CallEnd
-    ensures called { (text before : List ℕ) → I.left input.old ≡ Some text → O.written output.old ≡ Some before
-        → IsCalled words text before (O.written output.new)
-        (N.told ports.old)
-        (N.told ports.new) result }
-    ensures read { result ≡ CallEnd.ReadFault → HasRisen (I.faults input.old) (I.faults input.new) }
-    ensures no_read { result ≢ CallEnd.ReadFault → I.faults input.new ≡ I.faults input.old }
-    ensures write { result ≡ CallEnd.WriteFault → HasRisen (O.faults output.old) (O.faults output.new) }
-    ensures no_write { result ≢ CallEnd.WriteFault → O.faults output.new ≡ O.faults output.old }
+    ensures called { (text before : List ℕ) → (I.told input.old).left ≡ Some text
+        → (O.told output.old).written ≡ Some before
+        → IsCalled words text before (O.told output.new).written (N.told ports.old) (N.told ports.new) result }
+    ensures read { result ≡ CallEnd.ReadFault → HasRisen (I.told input.old).faults (I.told input.new).faults }
+    ensures no_read { result ≢ CallEnd.ReadFault → (I.told input.new).faults ≡ (I.told input.old).faults }
+    ensures write { result ≡ CallEnd.WriteFault → HasRisen (O.told output.old).faults (O.told output.new).faults }
+    ensures no_write { result ≢ CallEnd.WriteFault → (O.told output.new).faults ≡ (O.told output.old).faults }
     ensures no_host { result ≡ CallEnd.NoHost → HasRisen (N.told ports.old).faults (N.told ports.new).faults }
 {
     let most = words.polls;
@@ -52,14 +51,14 @@ pub fn call<R: Net, I: Source, O: Sink, N: Ports>(
 
 /// Reads the text, and makes the call ready to begin.
 fn begin<I: Source>(alloc: Global, words: CallWords, input: &mut I) -> Result<Talk, CallEnd>
-    ensures begun { (text : List ℕ) → I.left input.old ≡ Some text
+    ensures begun { (text : List ℕ) → (I.told input.old).left ≡ Some text
         → IfOk result (λ talk. HasBegun (plan_of words text) talk × (length text ≤ text_limit)) }
     ensures within { IfOk result (λ talk. talk.taken ≤ length talk.sent.items) }
-    ensures too_long { (text : List ℕ) → I.left input.old ≡ Some text
+    ensures too_long { (text : List ℕ) → (I.told input.old).left ≡ Some text
         → IsErrOf result CallEnd.TooLong → text_limit < length text }
     ensures only { IfErr result IsReadingEnd }
-    ensures read { IsErrOf result CallEnd.ReadFault → HasRisen (I.faults input.old) (I.faults input.new) }
-    ensures no_read { ¬ IsErrOf result CallEnd.ReadFault → I.faults input.new ≡ I.faults input.old }
+    ensures read { IsErrOf result CallEnd.ReadFault → HasRisen (I.told input.old).faults (I.told input.new).faults }
+    ensures no_read { ¬ IsErrOf result CallEnd.ReadFault → (I.told input.new).faults ≡ (I.told input.old).faults }
 {
     let text = read_text(alloc, input)?;
     match Talk::new(alloc, words, &text) {
@@ -79,12 +78,12 @@ fn converse<R: Net, O: Sink, N: Ports>(
 ) -> CallEnd
     requires within { talk.old.taken ≤ length talk.old.sent.items }
     ensures talked { (plan : CallPlan) (before : List ℕ) → HasBegun plan talk.old
-        → O.written output.old ≡ Some before → HasTalked plan most id before (O.written output.new)
+        → (O.told output.old).written ≡ Some before → HasTalked plan most id before (O.told output.new).written
         (N.told ports.old)
         (N.told ports.new) result }
     ensures only { IsTalkEnd result }
-    ensures write { result ≡ CallEnd.WriteFault → HasRisen (O.faults output.old) (O.faults output.new) }
-    ensures no_write { result ≢ CallEnd.WriteFault → O.faults output.new ≡ O.faults output.old }
+    ensures write { result ≡ CallEnd.WriteFault → HasRisen (O.told output.old).faults (O.told output.new).faults }
+    ensures no_write { result ≢ CallEnd.WriteFault → (O.told output.new).faults ≡ (O.told output.old).faults }
 {
     for _turn in 0..most {
         if let Some(end) = talk.turn(rt, id, output, ports) {

@@ -7,13 +7,13 @@ use tnc_base::{Failed, Sink};
 
 /// Writes octets, if there are any.
 pub(crate) fn print<O: Sink>(output: &mut O, octets: &[u8]) -> Result<(), Failed>
-    ensures appends { (before : List ℕ) → O.written output.old ≡ Some before
-        → OnOk result (O.written output.new ≡ Some (before ++ octets.now)) }
-    ensures partly { (before : List ℕ) → O.written output.old ≡ Some before
-        → OnErr result (WrotePart before octets.now (O.written output.new)) }
-    ensures later { O.faults output.old ≤ O.faults output.new }
-    ensures faultless { OnOk result (O.faults output.new ≡ O.faults output.old) }
-    ensures failed { OnErr result (HasRisen (O.faults output.old) (O.faults output.new)) }
+    ensures appends { (before : List ℕ) → (O.told output.old).written ≡ Some before
+        → OnOk result ((O.told output.new).written ≡ Some (before ++ octets.now)) }
+    ensures partly { (before : List ℕ) → (O.told output.old).written ≡ Some before
+        → OnErr result (WrotePart before octets.now (O.told output.new).written) }
+    ensures later { (O.told output.old).faults ≤ (O.told output.new).faults }
+    ensures faultless { OnOk result ((O.told output.new).faults ≡ (O.told output.old).faults) }
+    ensures failed { OnErr result (HasRisen (O.told output.old).faults (O.told output.new).faults) }
 {
     if octets.is_empty() {
         return Ok(());

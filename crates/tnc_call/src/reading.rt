@@ -15,14 +15,14 @@ const PIECE: usize = 4096;
 
 /// All octets of the input, read to its end. Reads at most 1,048,577 octets, and ends at the first read that fails.
 pub(crate) fn read_text<I: Source>(alloc: Global, input: &mut I) -> Result<Vec<u8>, CallEnd>
-    ensures whole { (text : List ℕ) → I.left input.old ≡ Some text → IfOk result (λ all. all.items ≡ text) }
+    ensures whole { (text : List ℕ) → (I.told input.old).left ≡ Some text → IfOk result (λ all. all.items ≡ text) }
     ensures limit { IfOk result (λ all. length all.items ≤ text_limit) }
-    ensures too_long { (text : List ℕ) → I.left input.old ≡ Some text
+    ensures too_long { (text : List ℕ) → (I.told input.old).left ≡ Some text
         → IsErrOf result CallEnd.TooLong → text_limit < length text }
-    ensures later { I.faults input.old ≤ I.faults input.new }
-    ensures read { IsErrOf result CallEnd.ReadFault → HasRisen (I.faults input.old) (I.faults input.new) }
+    ensures later { (I.told input.old).faults ≤ (I.told input.new).faults }
+    ensures read { IsErrOf result CallEnd.ReadFault → HasRisen (I.told input.old).faults (I.told input.new).faults }
     ensures only { IfErr result IsReadingEnd }
-    ensures no_read { ¬ IsErrOf result CallEnd.ReadFault → I.faults input.new ≡ I.faults input.old }
+    ensures no_read { ¬ IsErrOf result CallEnd.ReadFault → (I.told input.new).faults ≡ (I.told input.old).faults }
 {
     let mut text = Vec::new(alloc);
     let mut buffer = [0; PIECE];

@@ -77,16 +77,16 @@ impl Talk {
     ) -> Option<CallEnd>
         requires within { self.old.taken ≤ length self.old.sent.items }
         ensures turned { (plan : CallPlan) (before : List ℕ) (start : PortsTold) (trace : CallTrace)
-            → IsRunning self.old plan id before (O.written output.old) start
-            (N.told ports.old) trace
-            → MatchOption result (TurnsOn self.new plan id before (O.written output.new) start
-            (N.told ports.new) (length trace.polls))
-            (HasStopped plan id before (O.written output.new) start
-            (N.told ports.new) (length trace.polls)) }
+            → IsRunning self.old plan id before (O.told output.old).written start (N.told ports.old) trace
+            → MatchOption result (TurnsOn self.new plan id before (O.told output.new).written start (N.told ports.new)
+            (length trace.polls))
+            (HasStopped plan id before (O.told output.new).written start (N.told ports.new)
+            (length trace.polls)) }
         ensures within { self.new.taken ≤ length self.new.sent.items }
         ensures only { IfSome result IsTalkEnd }
-        ensures write { result ≡ Some CallEnd.WriteFault → HasRisen (O.faults output.old) (O.faults output.new) }
-        ensures faultless { result ≢ Some CallEnd.WriteFault → O.faults output.new ≡ O.faults output.old }
+        ensures write { result ≡ Some CallEnd.WriteFault
+            → HasRisen (O.told output.old).faults (O.told output.new).faults }
+        ensures faultless { result ≢ Some CallEnd.WriteFault → (O.told output.new).faults ≡ (O.told output.old).faults }
     {
         match self.offer(rt, id, ports) {
             Ok(()) => self.hear(rt, id, output, ports),
@@ -104,16 +104,16 @@ impl Talk {
     ) -> Option<CallEnd>
         requires within { self.old.taken ≤ length self.old.sent.items }
         ensures heard { (plan : CallPlan) (before : List ℕ) (start : PortsTold) (trace : CallTrace)
-            → HasOffered self.old plan id before (O.written output.old) start
-            (N.told ports.old) trace
-            → MatchOption result (TurnsOn self.new plan id before (O.written output.new) start
-            (N.told ports.new) (length trace.polls))
-            (HasStopped plan id before (O.written output.new) start
-            (N.told ports.new) (length trace.polls)) }
+            → HasOffered self.old plan id before (O.told output.old).written start (N.told ports.old) trace
+            → MatchOption result (TurnsOn self.new plan id before (O.told output.new).written start (N.told ports.new)
+            (length trace.polls))
+            (HasStopped plan id before (O.told output.new).written start (N.told ports.new)
+            (length trace.polls)) }
         ensures within { self.new.taken ≤ length self.new.sent.items }
         ensures only { IfSome result IsTalkEnd }
-        ensures write { result ≡ Some CallEnd.WriteFault → HasRisen (O.faults output.old) (O.faults output.new) }
-        ensures faultless { result ≢ Some CallEnd.WriteFault → O.faults output.new ≡ O.faults output.old }
+        ensures write { result ≡ Some CallEnd.WriteFault
+            → HasRisen (O.told output.old).faults (O.told output.new).faults }
+        ensures faultless { result ≢ Some CallEnd.WriteFault → (O.told output.new).faults ≡ (O.told output.old).faults }
     {
         match ports.poll(rt, WAIT_MS, &[]) {
             Ok(events) => self.take_all(id, &events, output),
@@ -162,14 +162,16 @@ impl Talk {
     ) -> Option<CallEnd>
         requires within { self.old.taken ≤ length self.old.sent.items }
         ensures taken { (plan : CallPlan) (host before : List ℕ)
-            → GoesOn self.old plan host before (O.written output.old)
-            → MatchOption result (GoesOn self.new plan (host ++ octets_of id events.now) before (O.written output.new))
-            (StopsBy plan id host events.now before (O.written output.new)) }
+            → GoesOn self.old plan host before (O.told output.old).written
+            → MatchOption result
+            (GoesOn self.new plan (host ++ octets_of id events.now) before (O.told output.new).written)
+            (StopsBy plan id host events.now before (O.told output.new).written) }
         ensures kept { self.new.taken ≡ self.old.taken }
         ensures within { self.new.taken ≤ length self.new.sent.items }
         ensures only { IfSome result IsTalkEnd }
-        ensures write { result ≡ Some CallEnd.WriteFault → HasRisen (O.faults output.old) (O.faults output.new) }
-        ensures faultless { result ≢ Some CallEnd.WriteFault → O.faults output.new ≡ O.faults output.old }
+        ensures write { result ≡ Some CallEnd.WriteFault
+            → HasRisen (O.told output.old).faults (O.told output.new).faults }
+        ensures faultless { result ≢ Some CallEnd.WriteFault → (O.told output.new).faults ≡ (O.told output.old).faults }
     {
         for event in events {
             let end = self.take(id, event, output);
@@ -184,15 +186,16 @@ impl Talk {
     fn take<O: Sink>(&mut self, id: u32, event: &HostEvent, output: &mut O) -> Option<CallEnd>
         requires within { self.old.taken ≤ length self.old.sent.items }
         ensures taken { (plan : CallPlan) (host before : List ℕ)
-            → GoesOn self.old plan host before (O.written output.old)
+            → GoesOn self.old plan host before (O.told output.old).written
             → MatchOption result
-            (GoesOn self.new plan (host ++ event_octets id event.now) before (O.written output.new))
-            (StopsBy plan id host (event.now ∷ []) before (O.written output.new)) }
+            (GoesOn self.new plan (host ++ event_octets id event.now) before (O.told output.new).written)
+            (StopsBy plan id host (event.now ∷ []) before (O.told output.new).written) }
         ensures kept { self.new.taken ≡ self.old.taken }
         ensures within { self.new.taken ≤ length self.new.sent.items }
         ensures only { IfSome result IsTalkEnd }
-        ensures write { result ≡ Some CallEnd.WriteFault → HasRisen (O.faults output.old) (O.faults output.new) }
-        ensures faultless { result ≢ Some CallEnd.WriteFault → O.faults output.new ≡ O.faults output.old }
+        ensures write { result ≡ Some CallEnd.WriteFault
+            → HasRisen (O.told output.old).faults (O.told output.new).faults }
+        ensures faultless { result ≢ Some CallEnd.WriteFault → (O.told output.new).faults ≡ (O.told output.old).faults }
     {
         match event {
             HostEvent::Joined { .. } => None,
@@ -215,14 +218,15 @@ impl Talk {
     fn take_octets<O: Sink>(&mut self, octets: &[u8], output: &mut O) -> Option<CallEnd>
         requires within { self.old.taken ≤ length self.old.sent.items }
         ensures taken { (plan : CallPlan) (host before : List ℕ)
-            → GoesOn self.old plan host before (O.written output.old)
-            → MatchOption result (GoesOn self.new plan (host ++ octets.now) before (O.written output.new))
-            (Stops plan (host ++ octets.now) before (O.written output.new)) }
+            → GoesOn self.old plan host before (O.told output.old).written
+            → MatchOption result (GoesOn self.new plan (host ++ octets.now) before (O.told output.new).written)
+            (Stops plan (host ++ octets.now) before (O.told output.new).written) }
         ensures kept { self.new.taken ≡ self.old.taken }
         ensures within { self.new.taken ≤ length self.new.sent.items }
         ensures only { IfSome result IsTalkEnd }
-        ensures write { result ≡ Some CallEnd.WriteFault → HasRisen (O.faults output.old) (O.faults output.new) }
-        ensures faultless { result ≢ Some CallEnd.WriteFault → O.faults output.new ≡ O.faults output.old }
+        ensures write { result ≡ Some CallEnd.WriteFault
+            → HasRisen (O.told output.old).faults (O.told output.new).faults }
+        ensures faultless { result ≢ Some CallEnd.WriteFault → (O.told output.new).faults ≡ (O.told output.old).faults }
     {
         for octet in octets {
             let end = self.take_octet(*octet, output);
@@ -237,14 +241,15 @@ impl Talk {
     fn take_octet<O: Sink>(&mut self, octet: u8, output: &mut O) -> Option<CallEnd>
         requires within { self.old.taken ≤ length self.old.sent.items }
         ensures taken { (plan : CallPlan) (host before : List ℕ)
-            → GoesOn self.old plan host before (O.written output.old)
-            → MatchOption result (GoesOn self.new plan (host ++ octet ∷ []) before (O.written output.new))
-            (Stops plan (host ++ octet ∷ []) before (O.written output.new)) }
+            → GoesOn self.old plan host before (O.told output.old).written
+            → MatchOption result (GoesOn self.new plan (host ++ octet ∷ []) before (O.told output.new).written)
+            (Stops plan (host ++ octet ∷ []) before (O.told output.new).written) }
         ensures kept { self.new.taken ≡ self.old.taken }
         ensures within { self.new.taken ≤ length self.new.sent.items }
         ensures only { IfSome result IsTalkEnd }
-        ensures write { result ≡ Some CallEnd.WriteFault → HasRisen (O.faults output.old) (O.faults output.new) }
-        ensures faultless { result ≢ Some CallEnd.WriteFault → O.faults output.new ≡ O.faults output.old }
+        ensures write { result ≡ Some CallEnd.WriteFault
+            → HasRisen (O.told output.old).faults (O.told output.new).faults }
+        ensures faultless { result ≢ Some CallEnd.WriteFault → (O.told output.new).faults ≡ (O.told output.old).faults }
     {
         match self.client.push(octet) {
             Ok(out) => self.follow(out, output),
@@ -259,14 +264,15 @@ impl Talk {
     fn follow<O: Sink>(&mut self, out: ClientOut, output: &mut O) -> Option<CallEnd>
         requires within { self.old.taken ≤ length self.old.sent.items }
         ensures taken { (plan : CallPlan) (host before : List ℕ)
-            → IsAhead self.old out plan host before (O.written output.old)
-            → MatchOption result (GoesOn self.new plan host before (O.written output.new))
-            (Stops plan host before (O.written output.new)) }
+            → IsAhead self.old out plan host before (O.told output.old).written
+            → MatchOption result (GoesOn self.new plan host before (O.told output.new).written)
+            (Stops plan host before (O.told output.new).written) }
         ensures kept { self.new.taken ≡ self.old.taken }
         ensures within { self.new.taken ≤ length self.new.sent.items }
         ensures only { IfSome result IsTalkEnd }
-        ensures write { result ≡ Some CallEnd.WriteFault → HasRisen (O.faults output.old) (O.faults output.new) }
-        ensures faultless { result ≢ Some CallEnd.WriteFault → O.faults output.new ≡ O.faults output.old }
+        ensures write { result ≡ Some CallEnd.WriteFault
+            → HasRisen (O.told output.old).faults (O.told output.new).faults }
+        ensures faultless { result ≢ Some CallEnd.WriteFault → (O.told output.new).faults ≡ (O.told output.old).faults }
     {
         let Ok(()) = self.sent.extend_from_slice(out.send.as_slice()) else {
             return Some(CallEnd::Memory);

@@ -12,12 +12,15 @@ use Rattle.frame_merge.proofs.Merging.{merged-rising, between_all}
 use Rattle.slicer_bank.specs.MergedItems.{AreMerged}
 use Rattle.slicer_bank.proofs.CandidateLemmas.{candidates_none}
 use Rattle.slicer_bank.proofs.MergingLemmas.{is_in_order}
-use Rattle.slicer_bank.proofs.MergedLemmas.{all, given_still}
+use Rattle.block_receiver.proofs.MergedLemmas.{all_items}
+use Rattle.slicer_bank.specs.Hearing.{hearing_of_eight}
+use Rattle.slicer_bank.proofs.MergedLemmas.{is_hearing as is_hearing_of_eight, stays as eight_stay}
 use Rattle.slicer_bank.proofs.OneList.{one_list}
 use Rattle.slicer_bank.proofs.SomeList.{some_list}
 use Rattle.hf_modem.specs.MergedItems.{AreMerged as AreHfMerged, AreMergedBetween as AreHfMergedBetween}
 use Rattle.hf_modem.proofs.CandidateLemmas.{candidates_none as no_hf}
-use Rattle.hf_modem.proofs.MergedLemmas.{is_in_order as hf_in_order, given_still as hf_still, all as hf_all}
+use Rattle.hf_modem.specs.Hearing.{hf_hearing}
+use Rattle.hf_modem.proofs.MergedLemmas.{is_hearing, is_in_order as hf_in_order, stays as hf_stays}
 use Rattle.hf_modem.proofs.OneList.{one_list as one_hf}
 use Rattle.hf_modem.proofs.SomeList.{some_list as some_hf}
 use Rattle.hf_sensitive.proofs.HeardLemmas.{none_heard as no_sensitive_hf}
@@ -116,20 +119,12 @@ from_zero to items = between_all 0 to items (λ k d l. omega arith)
 pub still_heard : (modem : Modem) (to : ℕ) (x y : List ℤ) (items whole : List Candidate) → to ≤ settled_count modem x
     → AreHeard modem x items → AreHeard modem (x ++ y) whole
     → below to (remaining modem items) ≡ below to (remaining modem whole)
-still_heard Plain to x y items whole within are all_are =
-    sym (from_zero to (merged items))
-    ∙ given_still 0 to x y (between 0 to (merged items)) whole within
-    (record { candidates = items; are = are; is = refl }) all_are
-    ∙ from_zero to (merged whole)
+still_heard Plain to x y items whole within are all_are = sym (eight_stay x y items whole to are all_are within)
 still_heard Wide to x y items whole within are all_are = sym (filtered_still to x y items whole within are all_are)
 still_heard Sensitive to x y items whole within are all_are = sensitive_still x y items whole are all_are to within
 still_heard WideSensitive to x y items whole within are all_are =
     decimated_still to x y items whole within are all_are
-still_heard ShortWave to x y items whole within are all_are =
-    sym (from_zero to (merged items))
-    ∙ hf_still 0 to x y (between 0 to (merged items)) whole within (record { candidates = items; are = are; is = refl })
-    all_are
-    ∙ from_zero to (merged whole)
+still_heard ShortWave to x y items whole within are all_are = sym (hf_stays x y items whole to are all_are within)
 still_heard SensitiveShortWave to x y items whole within are all_are =
     sensitive_hf_still x y items whole are all_are to within
 still_heard Fx25 to x y items whole within are all_are = still_with_blocks to x y items whole within are all_are
@@ -150,7 +145,7 @@ rest_plain x items h =
     let n : ℕ = length x in
     let zs : List Candidate = merged h.candidates in
     let rises : IsNonDecreasingBy (λ y. y.end) zs = rising_heard Plain x h.candidates h.are in
-    let both : AreMerged x (between 0 (n + 1) zs) = all x (between 0 (n + 1) zs)
+    let both : AreMerged x (between 0 (n + 1) zs) = all_items hearing_of_eight is_hearing_of_eight x (between 0 (n + 1) zs)
     (record { candidates = h.candidates; are = h.are; is = refl }) in
     let whole : below (n + 1) zs ≡ zs
     = sym (from_zero (n + 1) zs) ∙ both.is ∙ ap merged (one_list x both.candidates h.candidates both.are h.are) in
@@ -231,7 +226,7 @@ rest_short_wave x items h =
     let n : ℕ = length x / 4 in
     let zs : List Candidate = merged h.candidates in
     let rises : IsNonDecreasingBy (λ y. y.end) zs = rising_heard ShortWave x h.candidates h.are in
-    let both : AreHfMerged x (between 0 (n + 1) zs) = hf_all x (between 0 (n + 1) zs)
+    let both : AreHfMerged x (between 0 (n + 1) zs) = all_items hf_hearing is_hearing x (between 0 (n + 1) zs)
     (record { candidates = h.candidates; are = h.are; is = refl }) in
     let whole : below (n + 1) zs ≡ zs
     = sym (from_zero (n + 1) zs) ∙ both.is ∙ ap merged (one_hf x both.candidates h.candidates both.are h.are) in

@@ -6,7 +6,9 @@ use Rattle.tnc_decode.proofs.Common.{ShortWave, SensitiveShortWave, Fx25, Sensit
 use Rattle.tnc_decode.proofs.Common.{AreGivenRest}
 use Rattle.hf_sensitive.specs.HeldDecoder.{HeldDecoder, StandsFor}
 use Rattle.hf_sensitive.specs.MergedItems.{AreMerged, AreMergedBetween, settled}
-use Rattle.hf_sensitive.proofs.MergedLemmas.{one_list, rising_heard, all_items}
+use Rattle.block_receiver.proofs.MergedLemmas.{all_items}
+use Rattle.hf_sensitive.specs.Hearing.{all_hf_hearing}
+use Rattle.hf_sensitive.proofs.MergedLemmas.{one_list, rising_heard, is_hearing}
 use Rattle.tnc_decode.specs.declared.decoders.Decoders.TheVariants.{SensitiveShortWave as SensitiveShortWaveDecoder}
 use Rattle.tnc_decode.proofs.ModemLemmas.{from_zero}
 
@@ -19,7 +21,7 @@ rest_from x items h =
     let zs : List Candidate = merged h.candidates in
     let rises : IsNonDecreasingBy (λ y. y.end) zs = rising_heard x h.candidates h.are in
     let both : AreMerged x (between 0 m zs)
-    = all_items x (between 0 m zs) (record { candidates = h.candidates; are = h.are; is = refl }) in
+    = all_items all_hf_hearing is_hearing x (between 0 m zs) (record { candidates = h.candidates; are = h.are; is = refl }) in
     let whole : below m zs ≡ zs
     = sym (from_zero m zs) ∙ both.is ∙ ap merged (one_list x both.candidates h.candidates both.are h.are) in
     h.is ∙ append_cancel_left (below from zs) (between from m zs) (not_below from zs)

@@ -9,7 +9,9 @@ use Rattle.wide_input.specs.HeldSensitive.{HeldSensitive, StandsFor as WideStand
 use Rattle.tnc_decode.specs.declared.decoders.Decoders.TheVariants.{WideSensitive as WideSensitiveDecoder}
 use Rattle.sensitive_receiver.specs.HeldDecoder.{HeldDecoder, StandsFor}
 use Rattle.sensitive_receiver.specs.MergedItems.{AreMerged, AreMergedBetween}
-use Rattle.sensitive_receiver.proofs.MergedLemmas.{one_list, rising_heard, all_items}
+use Rattle.block_receiver.proofs.MergedLemmas.{all_items}
+use Rattle.sensitive_receiver.specs.AllHearing.{hearing_of_all}
+use Rattle.sensitive_receiver.proofs.MergedLemmas.{one_list, rising_heard, is_hearing}
 use Rattle.tnc_decode.specs.declared.decoders.Decoders.TheVariants.{Sensitive as SensitiveDecoder}
 use Rattle.tnc_decode.proofs.ModemLemmas.{from_zero}
 
@@ -25,7 +27,7 @@ rest_from from x items within h =
     let zs : List Candidate = merged h.candidates in
     let rises : IsNonDecreasingBy (λ y. y.end) zs = rising_heard x h.candidates h.are in
     let both : AreMerged x (between 0 m zs)
-    = all_items x (between 0 m zs) (record { candidates = h.candidates; are = h.are; is = refl }) in
+    = all_items hearing_of_all is_hearing x (between 0 m zs) (record { candidates = h.candidates; are = h.are; is = refl }) in
     let whole : below m zs ≡ zs
     = sym (from_zero m zs) ∙ both.is ∙ ap merged (one_list x both.candidates h.candidates both.are h.are) in
     h.is ∙ append_cancel_left (below from zs) (between from m zs) (not_below from zs)

@@ -10,8 +10,8 @@ use crate::sensitive_fx25_decoder::SensitiveFx25Decoder;
 use frame_merge::Candidate;
 use hf_modem::HfDecoder;
 use hf_sensitive::HfSensitiveDecoder;
-use sensitive_receiver::SensitiveDecoder;
-use slicer_bank::{Decoder, OpenGate};
+use sensitive_receiver::{AllOnThreads, SensitiveDecoder};
+use slicer_bank::{Decoder, OnThreads, OpenGate};
 use std::alloc::Global;
 use std::thread::Threads;
 use tnc_base::OutOfMemory;
@@ -141,11 +141,14 @@ impl Decoders {
     {
         let threads = is_shared(threads, block);
         match self {
-            Decoders::Plain(decoder) if threads => decoder.block_threads(rt, block, &OpenGate),
+            Decoders::Plain(decoder) if threads => decoder.block_by(&OnThreads { rt }, block),
             Decoders::Plain(decoder) => decoder.block(block),
             Decoders::Wide(decoder) if threads => decoder.block_threads(rt, block, &OpenGate),
             Decoders::Wide(decoder) => decoder.block(block),
-            Decoders::Sensitive(decoder) if threads => decoder.block_threads(rt, block),
+            Decoders::Sensitive(decoder) if threads => decoder.block_by(
+                &AllOnThreads { rt },
+                block,
+            ),
             Decoders::Sensitive(decoder) => decoder.block(block),
             Decoders::WideSensitive(decoder) if threads => decoder.block_threads(rt, block),
             Decoders::WideSensitive(decoder) => decoder.block(block),

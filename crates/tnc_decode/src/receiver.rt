@@ -27,7 +27,7 @@ const BLOCK: usize = 2048;
 const LONG_BLOCK: usize = 262_144;
 
 /// The most octets whose samples the threads of a sensitive receiver share. They do seven times as much with each sample,
-/// and keep eight octets of it beside the sample, so that a shorter block pays and takes less memory.
+/// and keep six octets of it beside the sample, so that a shorter block pays and takes less memory.
 const SENSITIVE_BLOCK: usize = 65_536;
 
 /// The most octets whose samples threads share, or that are read at once if they share none.

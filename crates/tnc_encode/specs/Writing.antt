@@ -2,7 +2,7 @@
 use Rattle.std.specs.Prelude.{◌≡◌, ℕ, ◌≤◌, ◌+◌, ◌⊎◌, All, List, [], ◌++◌, length, drop, Option, Some, None}
 use Rattle.std.specs.Prelude.{Result, OnOk, OnErr, IfErr, IsErrOf}
 use Rattle.tnc_base.specs.Faults.{HasRisen}
-use Rattle.tnc_base.specs.Streams.{WrotePart}
+use Rattle.tnc_base.specs.Streams.{SourceTold, SinkTold, WrotePart}
 use Rattle.afsk_modulator.specs.Modulation.{IsLevel}
 use Rattle.hdlc_framer.specs.FrameLength.{IsBadLength}
 use Rattle.tnc_forms.specs.declared.fault.Fault.{Fault}
@@ -29,15 +29,16 @@ pub record Writes (text : List ℕ) (was now : Option (List ℕ)) (result : Resu
   pub part : (before : List ℕ) → was ≡ Some before → OnErr result (WrotePart before text now)
 
 -- the output counts no fault if all goes well, and its count has risen if the output failed
-pub record CountsWrites (was now : ℕ) (result : Result (Unit {0}) Fault) : Type 0 where
-  pub faultless : OnOk result (now ≡ was)
-  pub risen : IsErrOf result Write → HasRisen was now
+pub record CountsWrites (was now : SinkTold) (result : Result (Unit {0}) Fault) : Type 0 where
+  pub faultless : OnOk result (now.faults ≡ was.faults)
+  pub risen : IsErrOf result Write → HasRisen was.faults now.faults
 
 -- so does the input, and the output beside it
-pub record CountsFaults (read_was read_now was now : ℕ) (result : Result (Unit {0}) Fault) : Type 0 where
-  pub faultless : OnOk result ((read_now ≡ read_was) × (now ≡ was))
-  pub read : IsErrOf result Read → HasRisen read_was read_now
-  pub write : IsErrOf result Write → HasRisen was now
+pub record CountsFaults (input left : SourceTold) (was now : SinkTold) (result : Result (Unit {0}) Fault)
+    : Type 0 where
+  pub faultless : OnOk result ((left.faults ≡ input.faults) × (now.faults ≡ was.faults))
+  pub read : IsErrOf result Read → HasRisen input.faults left.faults
+  pub write : IsErrOf result Write → HasRisen was.faults now.faults
 
 -- only memory or the output can fail
 abbrev pub FailsInWriting : Result (Unit {0}) Fault → Type 0

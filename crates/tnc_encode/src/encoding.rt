@@ -36,17 +36,20 @@ pub fn encode<I: Source, O: Sink>(
     requires closing { 1 ≤ words.closing }
     requires level { IsLevel words.level }
 
-    ensures ended { (octets : List ℕ) → keeps_frames words.audio words.join ≡ false → I.left input.old ≡ Some octets
+    ensures ended { (octets : List ℕ) → keeps_frames words.audio words.join ≡ false
+        → (I.told input.old).left ≡ Some octets
         → IsEnded (encode_making words) piece_limit octets
-        (I.left input.new) (O.written output.old) (O.written output.new) result }
-    ensures whole { (octets : List ℕ) → keeps_frames words.audio words.join ≡ true → I.left input.old ≡ Some octets
-        → EncodesWhole words octets (I.left input.new) (O.written output.old) (O.written output.new) result }
+        (I.told input.new).left (O.told output.old).written (O.told output.new).written result }
+    ensures whole { (octets : List ℕ) → keeps_frames words.audio words.join ≡ true
+        → (I.told input.old).left ≡ Some octets
+        → EncodesWhole words octets (I.told input.new).left (O.told output.old).written (O.told output.new).written
+        result }
     ensures unwritten { keeps_frames words.audio words.join ≡ true
         → (result ≡ Err (Fault.Input InputFault.TooLong)) ⊎ (result ≡ Err Fault.Read) → output.new ≡ output.old }
-    ensures faultless { OnOk result ((I.faults input.new ≡ I.faults input.old)
-        × (O.faults output.new ≡ O.faults output.old)) }
-    ensures read { IsErrOf result Fault.Read → HasRisen (I.faults input.old) (I.faults input.new) }
-    ensures write { IsErrOf result Fault.Write → HasRisen (O.faults output.old) (O.faults output.new) }
+    ensures faultless { OnOk result (((I.told input.new).faults ≡ (I.told input.old).faults)
+        × ((O.told output.new).faults ≡ (O.told output.old).faults)) }
+    ensures read { IsErrOf result Fault.Read → HasRisen (I.told input.old).faults (I.told input.new).faults }
+    ensures write { IsErrOf result Fault.Write → HasRisen (O.told output.old).faults (O.told output.new).faults }
 {
     if keeps_frames(words) {
         return encode_whole(alloc, words, input, output);
@@ -75,10 +78,10 @@ fn encode_whole<I: Source, O: Sink>(
     output: &mut O,
 ) -> Result<(), Fault>
     requires { CanSend words }
-    ensures whole { (octets : List ℕ) → I.left input.old ≡ Some octets
-        → EncodesWhole words octets (I.left input.new) (O.written output.old) (O.written output.new) result }
-    ensures counts { CountsFaults (I.faults input.old) (I.faults input.new)
-        (O.faults output.old) (O.faults output.new) result }
+    ensures whole { (octets : List ℕ) → (I.told input.old).left ≡ Some octets
+        → EncodesWhole words octets (I.told input.new).left (O.told output.old).written (O.told output.new).written
+        result }
+    ensures counts { CountsFaults (I.told input.old) (I.told input.new) (O.told output.old) (O.told output.new) result }
     ensures unwritten { (result ≡ Err (Fault.Input InputFault.TooLong)) ⊎ (result ≡ Err Fault.Read) → output.new
         ≡ output.old }
 {
@@ -96,13 +99,14 @@ fn encode_octets<O: Sink>(
     requires words { CanSend words }
     requires limit { length octets.now ≤ input_limit }
     ensures good { OnOk result (fault_of_whole words octets.now ≡ None) }
-    ensures writes { Writes (encoded words octets.now) (O.written output.old) (O.written output.new) result }
+    ensures writes { Writes (encoded words octets.now) (O.told output.old).written (O.told output.new).written result }
     ensures bad { (fault : InputFault) → IsErrOf result (Fault.Input fault)
         → (fault_of_whole words octets.now ≡ Some fault) × (fault ≢ InputFault.TooLong) }
-    ensures encoded_before { (before : List ℕ) → (fault : InputFault) → O.written output.old ≡ Some before
-        → IsErrOf result (Fault.Input fault) → O.written output.new ≡ Some (before ++ encoded_before words octets.now) }
+    ensures encoded_before { (before : List ℕ) → (fault : InputFault) → (O.told output.old).written ≡ Some before
+        → IsErrOf result (Fault.Input fault)
+        → (O.told output.new).written ≡ Some (before ++ encoded_before words octets.now) }
     ensures read { ¬ IsErrOf result Fault.Read }
-    ensures counts { CountsWrites (O.faults output.old) (O.faults output.new) result }
+    ensures counts { CountsWrites (O.told output.old) (O.told output.new) result }
 {
     let read = read_frames(alloc, words.frames, octets)?;
     match read.fault {
@@ -124,13 +128,13 @@ fn send_as_told<O: Sink>(
     requires words { CanSend words }
     requires frames { CanBeSent frames.now }
     ensures writes { Writes (written_as words.audio (signal_of words frames.now))
-        (O.written output.old) (O.written output.new) result }
+        (O.told output.old).written (O.told output.new).written result }
     ensures fits { OnOk result (length_fault words.audio (length (signal_of words frames.now)) ≡ None) }
     ensures long { (fault : InputFault) → IsErrOf result (Fault.Input fault)
         → (length_fault words.audio (length (signal_of words frames.now)) ≡ Some fault)
         × (fault ≢ InputFault.TooLong) × (words.audio ≡ AudioForm.Wav) × (output.new ≡ output.old) }
     ensures read { ¬ IsErrOf result Fault.Read }
-    ensures counts { CountsWrites (O.faults output.old) (O.faults output.new) result }
+    ensures counts { CountsWrites (O.told output.old) (O.told output.new) result }
 {
     match words.audio {
         AudioForm::Raw => send_all(alloc, words, frames, output),
@@ -148,8 +152,8 @@ fn send_before_fault<O: Sink>(
     requires words { CanSend words }
     requires frames { CanBeSent frames.now }
     ensures writes { Writes (written_before words.audio (signal_of words frames.now))
-        (O.written output.old) (O.written output.new) result }
-    ensures counts { CountsWrites (O.faults output.old) (O.faults output.new) result }
+        (O.told output.old).written (O.told output.new).written result }
+    ensures counts { CountsWrites (O.told output.old) (O.told output.new) result }
     ensures faults { FailsInWriting result }
 {
     match words.audio {
@@ -168,12 +172,12 @@ fn send_wav<O: Sink>(
     requires words { CanSend words }
     requires frames { CanBeSent frames.now }
     ensures writes { Writes (written_as AudioForm.Wav (signal_of words frames.now))
-        (O.written output.old) (O.written output.new) result }
+        (O.told output.old).written (O.told output.new).written result }
     ensures fits { OnOk result (length_fault AudioForm.Wav (length (signal_of words frames.now)) ≡ None) }
     ensures long { (fault : InputFault) → IsErrOf result (Fault.Input fault)
         → (length_fault AudioForm.Wav (length (signal_of words frames.now)) ≡ Some fault)
         × (fault ≢ InputFault.TooLong) × (output.new ≡ output.old) }
-    ensures counts { CountsWrites (O.faults output.old) (O.faults output.new) result }
+    ensures counts { CountsWrites (O.told output.old) (O.told output.new) result }
     ensures read { ¬ IsErrOf result Fault.Read }
 {
     let count = count_samples(alloc, words, frames)?;
@@ -196,8 +200,9 @@ fn send_all<O: Sink>(
 ) -> Result<(), Fault>
     requires words { CanSend words }
     requires frames { CanBeSent frames.now }
-    ensures writes { Writes (pcm (signal_of words frames.now)) (O.written output.old) (O.written output.new) result }
-    ensures counts { CountsWrites (O.faults output.old) (O.faults output.new) result }
+    ensures writes { Writes (pcm (signal_of words frames.now)) (O.told output.old).written
+        (O.told output.new).written result }
+    ensures counts { CountsWrites (O.told output.old) (O.told output.new) result }
     ensures faults { FailsInWriting result }
 {
     if words.join {
@@ -223,10 +228,10 @@ fn send<O: Sink>(
     requires words { CanSend words }
     requires frames { CanBeSent frames.now }
     ensures writes { Writes (pcm (samples_at_once words frames.now))
-        (O.written output.old) (O.written output.new) result }
+        (O.told output.old).written (O.told output.new).written result }
     ensures unwritten { IsErrOf result Fault.Memory → output.new ≡ output.old }
-    ensures later { O.faults output.old ≤ O.faults output.new }
-    ensures counts { CountsWrites (O.faults output.old) (O.faults output.new) result }
+    ensures later { (O.told output.old).faults ≤ (O.told output.new).faults }
+    ensures counts { CountsWrites (O.told output.old) (O.told output.new) result }
     ensures faults { FailsInWriting result }
 {
     let samples = samples_at_once(alloc, words, frames)?;

@@ -26,13 +26,14 @@ pub fn make<M: Maker, I: Source, O: Sink>(
     requires new { (words : M.Words) × M.holds maker.old words [] }
     requires laws { (words : M.Words) → IsMaking (M.making words) }
     requires room { 0 < length buffer.old }
-    ensures ended { (words : M.Words) (octets : List ℕ) → M.holds maker.old words [] → I.left input.old ≡ Some octets
+    ensures ended { (words : M.Words) (octets : List ℕ) → M.holds maker.old words []
+        → (I.told input.old).left ≡ Some octets
         → IsEnded (M.making words) (length buffer.old) octets
-        (I.left input.new) (O.written output.old) (O.written output.new) result }
-    ensures faultless { OnOk result ((I.faults input.new ≡ I.faults input.old)
-        × (O.faults output.new ≡ O.faults output.old)) }
-    ensures read { IsErrOf result Fault.Read → HasRisen (I.faults input.old) (I.faults input.new) }
-    ensures write { IsErrOf result Fault.Write → HasRisen (O.faults output.old) (O.faults output.new) }
+        (I.told input.new).left (O.told output.old).written (O.told output.new).written result }
+    ensures faultless { OnOk result (((I.told input.new).faults ≡ (I.told input.old).faults)
+        × ((O.told output.new).faults ≡ (O.told output.old).faults)) }
+    ensures read { IsErrOf result Fault.Read → HasRisen (I.told input.old).faults (I.told input.new).faults }
+    ensures write { IsErrOf result Fault.Write → HasRisen (O.told output.old).faults (O.told output.new).faults }
 {
     let mut text = Vec::new(alloc);
     let mut total = 0;
@@ -58,13 +59,13 @@ fn make_piece<M: Maker, O: Sink>(
     requires laws { (words : M.Words) → IsMaking (M.making words) }
     ensures taken { (words : M.Words) (before : List ℕ) → M.holds maker.old words before
         → (M.making words).fault_so_far before ≡ None
-        → IsTaken (M.making words) before octets.now (O.written output.old) (O.written output.new) result }
+        → IsTaken (M.making words) before octets.now (O.told output.old).written (O.told output.new).written result }
     ensures goes { (words : M.Words) (before : List ℕ) → M.holds maker.old words before
         → (M.making words).fault_so_far before ≡ None
         → OnOk result (M.holds maker.new words (before ++ octets.now)
         × ((M.making words).fault_so_far (before ++ octets.now) ≡ None)) }
-    ensures faultless { OnOk result (O.faults output.new ≡ O.faults output.old) }
-    ensures write { IsErrOf result Fault.Write → HasRisen (O.faults output.old) (O.faults output.new) }
+    ensures faultless { OnOk result ((O.told output.new).faults ≡ (O.told output.old).faults) }
+    ensures write { IsErrOf result Fault.Write → HasRisen (O.told output.old).faults (O.told output.new).faults }
     ensures read { ¬ IsErrOf result Fault.Read }
 {
     let mut rest = octets;
@@ -88,9 +89,9 @@ fn make_last<M: Maker, O: Sink>(
     requires held { (words : M.Words) × (before : List ℕ) × M.holds maker.old words before
         × (length before ≤ input_limit) }
     ensures finished { (words : M.Words) (octets : List ℕ) → M.holds maker.old words octets
-        → IsFinished (M.making words) octets (O.written output.old) (O.written output.new) result }
-    ensures faultless { OnOk result (O.faults output.new ≡ O.faults output.old) }
-    ensures write { IsErrOf result Fault.Write → HasRisen (O.faults output.old) (O.faults output.new) }
+        → IsFinished (M.making words) octets (O.told output.old).written (O.told output.new).written result }
+    ensures faultless { OnOk result ((O.told output.new).faults ≡ (O.told output.old).faults) }
+    ensures write { IsErrOf result Fault.Write → HasRisen (O.told output.old).faults (O.told output.new).faults }
     ensures read { ¬ IsErrOf result Fault.Read }
 {
     let fault = maker.finish(text)?;
@@ -103,12 +104,12 @@ fn make_last<M: Maker, O: Sink>(
 
 /// Writes a text, if there is any.
 fn write_text<O: Sink>(text: &[u8], output: &mut O) -> Result<(), Fault>
-    ensures appends { (before : List ℕ) → O.written output.old ≡ Some before
-        → OnOk result (O.written output.new ≡ Some (before ++ text.now)) }
-    ensures partly { (before : List ℕ) → O.written output.old ≡ Some before
-        → OnErr result (WrotePart before text.now (O.written output.new)) }
-    ensures faultless { OnOk result (O.faults output.new ≡ O.faults output.old) }
-    ensures failed { OnErr result (HasRisen (O.faults output.old) (O.faults output.new)) }
+    ensures appends { (before : List ℕ) → (O.told output.old).written ≡ Some before
+        → OnOk result ((O.told output.new).written ≡ Some (before ++ text.now)) }
+    ensures partly { (before : List ℕ) → (O.told output.old).written ≡ Some before
+        → OnErr result (WrotePart before text.now (O.told output.new).written) }
+    ensures faultless { OnOk result ((O.told output.new).faults ≡ (O.told output.old).faults) }
+    ensures failed { OnErr result (HasRisen (O.told output.old).faults (O.told output.new).faults) }
     ensures only { IfErr result (λ fault. fault ≡ Fault.Write) }
 {
     if text.is_empty() {

@@ -17,18 +17,19 @@ pub const PIECE: usize = 4096;
 
 /// All octets of the input, read to its end. Reads at most 2^40 + 1 octets, and ends at the first read that fails.
 pub fn read_all<I: Source>(alloc: Global, input: &mut I) -> Result<Vec<u8>, Fault>
-    ensures whole { (octets : List ℕ) → I.left input.old ≡ Some octets
+    ensures whole { (octets : List ℕ) → (I.told input.old).left ≡ Some octets
         → IfOk result (λ all. all.items ≡ octets) }
-    ensures end { (octets : List ℕ) → I.left input.old ≡ Some octets
-        → OnOk result (I.left input.new ≡ Some []) }
+    ensures end { (octets : List ℕ) → (I.told input.old).left ≡ Some octets
+        → OnOk result ((I.told input.new).left ≡ Some []) }
     ensures limit { IfOk result (λ all. length all.items ≤ input_limit) }
-    ensures too_long { (octets : List ℕ) → I.left input.old ≡ Some octets
+    ensures too_long { (octets : List ℕ) → (I.told input.old).left ≡ Some octets
         → IsErrOf result (Fault.Input InputFault.TooLong) → input_limit < length octets }
-    ensures stops { (octets : List ℕ) → I.left input.old ≡ Some octets
-        → IsErrOf result (Fault.Input InputFault.TooLong) → I.left input.new ≡ Some (drop (input_limit + 1) octets) }
-    ensures later { I.faults input.old ≤ I.faults input.new }
-    ensures faultless { OnOk result (I.faults input.new ≡ I.faults input.old) }
-    ensures read { IsErrOf result Fault.Read → HasRisen (I.faults input.old) (I.faults input.new) }
+    ensures stops { (octets : List ℕ) → (I.told input.old).left ≡ Some octets
+        → IsErrOf result (Fault.Input InputFault.TooLong)
+        → (I.told input.new).left ≡ Some (drop (input_limit + 1) octets) }
+    ensures later { (I.told input.old).faults ≤ (I.told input.new).faults }
+    ensures faultless { OnOk result ((I.told input.new).faults ≡ (I.told input.old).faults) }
+    ensures read { IsErrOf result Fault.Read → HasRisen (I.told input.old).faults (I.told input.new).faults }
     ensures write { ¬ IsErrOf result Fault.Write }
     ensures only { (fault : InputFault) → IsErrOf result (Fault.Input fault) → fault ≡ InputFault.TooLong }
 {
@@ -52,18 +53,18 @@ pub fn read_all<I: Source>(alloc: Global, input: &mut I) -> Result<Vec<u8>, Faul
 pub fn read_piece<I: Source>(input: &mut I, total: usize, buffer: &mut [u8]) -> Result<usize, Fault>
     requires few { total ≤ input_limit }
     requires room { 0 < length buffer.old }
-    ensures piece { (octets : List ℕ) → I.left input.old ≡ Some octets
+    ensures piece { (octets : List ℕ) → (I.told input.old).left ≡ Some octets
         → IfOk result (λ count. (rest : List ℕ) × (octets ≡ take count buffer.new ++ rest)
-        × (I.left input.new ≡ Some rest)
+        × ((I.told input.new).left ≡ Some rest)
         × (count ≡ 0 → rest ≡ [])) }
     ensures bound { IfOk result (λ count. (count ≤ length buffer.new) × (total + count ≤ input_limit)) }
-    ensures too_long { (octets : List ℕ) → I.left input.old ≡ Some octets
+    ensures too_long { (octets : List ℕ) → (I.told input.old).left ≡ Some octets
         → IsErrOf result (Fault.Input InputFault.TooLong)
-        → (total ≡ input_limit) × (0 < length octets) × (I.left input.new ≡ Some (drop 1 octets)) }
-    ensures kept { IsErrOf result Fault.Read → I.left input.new ≡ I.left input.old }
-    ensures later { I.faults input.old ≤ I.faults input.new }
-    ensures faultless { OnOk result (I.faults input.new ≡ I.faults input.old) }
-    ensures read { IsErrOf result Fault.Read → HasRisen (I.faults input.old) (I.faults input.new) }
+        → (total ≡ input_limit) × (0 < length octets) × ((I.told input.new).left ≡ Some (drop 1 octets)) }
+    ensures kept { IsErrOf result Fault.Read → (I.told input.new).left ≡ (I.told input.old).left }
+    ensures later { (I.told input.old).faults ≤ (I.told input.new).faults }
+    ensures faultless { OnOk result ((I.told input.new).faults ≡ (I.told input.old).faults) }
+    ensures read { IsErrOf result Fault.Read → HasRisen (I.told input.old).faults (I.told input.new).faults }
     ensures write { ¬ IsErrOf result Fault.Write }
     ensures memory { ¬ IsErrOf result Fault.Memory }
     ensures only { (fault : InputFault) → IsErrOf result (Fault.Input fault) → fault ≡ InputFault.TooLong }

@@ -26,24 +26,24 @@ pub fn loop_back<R: Threads + Sync, O: Sink>(
     output: &mut O,
 ) -> Result<(), LoopFault>
     // what is written, and what then holds of the samples
-    ensures done { (before : List ℕ) → O.written output.old ≡ Some before
-        → OnOk result ((text : List ℕ) × IsSummary words text × (O.written output.new ≡ Some (before ++ text))) }
-    ensures same { (before : List ℕ) → O.written output.old ≡ Some before
-        → OnOk result (O.written output.new ≡ Some (before ++ clean_summary words)) }
+    ensures done { (before : List ℕ) → (O.told output.old).written ≡ Some before
+        → OnOk result ((text : List ℕ) × IsSummary words text × ((O.told output.new).written ≡ Some (before ++ text))) }
+    ensures same { (before : List ℕ) → (O.told output.old).written ≡ Some before
+        → OnOk result ((O.told output.new).written ≡ Some (before ++ clean_summary words)) }
     ensures no_stray { OnOk result (NoStray (drawn words) (samples_drawn words)) }
     ensures clean { OnOk result (MergesTo (frames_of (drawn words)) (samples_drawn words)) }
-    ensures faultless { OnOk result (O.faults output.new ≡ O.faults output.old) }
+    ensures faultless { OnOk result ((O.told output.new).faults ≡ (O.told output.old).faults) }
 
     // the stray candidate that is told, and what was written before
     ensures stray { (octets : List ℕ) → IsErrOf result (LoopFault.Stray octets) → IsFirstStray words octets }
-    ensures done_before { (octets before : List ℕ) → O.written output.old ≡ Some before
+    ensures done_before { (octets before : List ℕ) → (O.told output.old).written ≡ Some before
         → IsErrOf result (LoopFault.Stray octets)
-        → (text : List ℕ) × IsSummary words text × (O.written output.new ≡ Some (before ++ text)) }
+        → (text : List ℕ) × IsSummary words text × ((O.told output.new).written ≡ Some (before ++ text)) }
 
     // each other fault, and what stands after it
-    ensures write { IsErrOf result LoopFault.Write → HasRisen (O.faults output.old) (O.faults output.new) }
-    ensures cut { (before text : List ℕ) → O.written output.old ≡ Some before → IsSummary words text
-        → OnErr result (WrotePart before text (O.written output.new)) }
+    ensures write { IsErrOf result LoopFault.Write → HasRisen (O.told output.old).faults (O.told output.new).faults }
+    ensures cut { (before text : List ℕ) → (O.told output.old).written ≡ Some before → IsSummary words text
+        → OnErr result (WrotePart before text (O.told output.new).written) }
     ensures unwritten { result ≡ Err LoopFault.Memory → output.new ≡ output.old }
 {
     let told = tell_drawn(rt, alloc, words)?;

@@ -1,6 +1,6 @@
 -- What the exit status of a call says of its end and of the report.
 use Rattle.tnc_main.proofs.Common.{◌≡◌, ◌≢◌, ℕ, ◌≤◌, List, Option, Some, None, inl, inr, refl, sym, subst, ap, ◌∙◌}
-use Rattle.tnc_main.proofs.Common.{arith, ◌⊎◌, HasRisen, Stream, CallWords, Status, BadWords, NoPort, code_of}
+use Rattle.tnc_main.proofs.Common.{arith, ◌⊎◌, HasRisen, SinkTold, CallWords, Status, BadWords, NoPort, code_of}
 use Rattle.tnc_main.proofs.Common.{IsLiveCode}
 use Rattle.tnc_call.specs.declared.call_end.CallEnd.{CallEnd}
 use Rattle.tnc_call.specs.declared.call_end.CallEnd.TheVariants.{Done, TooLong, Memory, ReadFault, WriteFault, NoHost}
@@ -95,18 +95,18 @@ is_no_port (GaveUp polls) is = omega arith
 -- ---- what was told
 
 -- and there may have been no memory for the line
-abbrev SettledOrWanted : Status → Status → Stream → Stream → Type 0
+abbrev SettledOrWanted : Status → Status → SinkTold → SinkTold → Type 0
 SettledOrWanted own status before after =
     ((status ≡ own) × (after.faults ≡ before.faults))
     ⊎ (((status ≡ OutputFailed) × HasRisen before.faults after.faults) ⊎ (status ≡ NoMemory))
 
-settled_or_wanted : (line : Option (List ℕ)) (own status : Status) (before after : Stream)
+settled_or_wanted : (line : Option (List ℕ)) (own status : Status) (before after : SinkTold)
     → IsEndToldOrWanted line own status before after → SettledOrWanted own status before after
 settled_or_wanted line own status before after (inl told) =
     elim (settled line own status before after told) [ inl well ↦ inl well | inr failed ↦ inr (inl failed) ]
 settled_or_wanted line own status before after (inr (is, same)) = inr (inr is)
 
-module _ (end : CallEnd) (status : Status) (before after : Stream)
+module _ (end : CallEnd) (status : Status) (before after : SinkTold)
     (told : IsEndToldOrWanted (line_of_end end) (status_of_end end) status before after) (code : ℕ)
     (is_code : code ≡ code_of status) where
   settles : SettledOrWanted (status_of_end end) status before after
@@ -177,7 +177,7 @@ module _ (end : CallEnd) (status : Status) (before after : Stream)
 
 -- a call that was made as some words ask for it was made as equal ones ask for it
 pub called_as : (words other : CallWords) (code : ℕ) (text before : List ℕ) (written : Option (List ℕ))
-    (start now : PortsTold) (report after : Stream) → words ≡ other
+    (start now : PortsTold) (report after : SinkTold) → words ≡ other
     → (status : Status) × (code ≡ code_of status) × Calls words text before written start now status report after
     → (status : Status) × (code ≡ code_of status) × Calls other text before written start now status report after
 called_as words other code text before written start now report after same h =
@@ -185,7 +185,7 @@ called_as words other code text before written start now report after same h =
 
 -- a call that was made from a report on was made from an equal one on
 pub called_from : (words : CallWords) (code : ℕ) (text before : List ℕ) (written : Option (List ℕ))
-    (start now : PortsTold) (was report after : Stream) → was ≡ report
+    (start now : PortsTold) (was report after : SinkTold) → was ≡ report
     → (status : Status) × (code ≡ code_of status) × Calls words text before written start now status was after
     → (status : Status) × (code ≡ code_of status) × Calls words text before written start now status report after
 called_from words code text before written start now was report after same h =

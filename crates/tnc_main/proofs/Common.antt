@@ -13,7 +13,7 @@ pub use Rattle.std.proofs.lemmas.List.Concat.{flat_map-cons}
 pub use Rattle.std.proofs.lemmas.List.Elements.{All-append, All-map, All-nil, All-same}
 pub use Rattle.std.specs.Prelude.{OnErr, OnOk, if◌then◌else◌, is_some, ◌⊎◌}
 pub use Rattle.tnc_base.specs.Faults.{HasRisen}
-pub use Rattle.tnc_base.specs.Streams.{WrotePart}
+pub use Rattle.tnc_base.specs.Streams.{WrotePart, SinkTold, SourceTold}
 pub use Rattle.tnc_bench.specs.Reported.{IsReportOf}
 pub use Rattle.tnc_bench.specs.declared.fault.CommandFault.{CommandFault}
 pub use Rattle.tnc_call.specs.declared.call_words.CallWords.{CallWords}
@@ -49,8 +49,6 @@ pub use Rattle.tnc_main.specs.declared.stop.Stop.{Stop}
 pub use Rattle.tnc_main.specs.declared.stop.Stop.TheVariants.{Input, Memory, NotQuiet, Read, Spent, Stray, Write}
 pub use Rattle.tnc_ports.specs.Pumped.{IsPumped}
 pub use Rattle.tnc_ports.specs.SampledRun.{Outside, outside_by}
-pub use Rattle.tnc_ports.specs.SampledWrites.{Stream, stream_of}
-pub use Rattle.tnc_ports.specs.ServeRun.{InputSide, input_by}
 pub use Rattle.tnc_ports.specs.declared.looping.LoopEnd.{LoopEnd}
 pub use Rattle.tnc_ports.specs.declared.pumping.PumpEnd.{PumpEnd}
 pub use Rattle.tnc_ports.specs.declared.pumping.PumpEnd.TheVariants.{InputEnd}

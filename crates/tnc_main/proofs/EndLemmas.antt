@@ -1,16 +1,16 @@
 -- How an end was told, and the codes of live commands.
-use Rattle.tnc_main.proofs.Common.{◌≡◌, ℕ, ◌≤◌, List, Option, Some, None, inl, inr, ap, arith, ◌⊎◌, HasRisen, Stream}
+use Rattle.tnc_main.proofs.Common.{◌≡◌, ℕ, ◌≤◌, List, Option, Some, None, inl, inr, ap, arith, ◌⊎◌, HasRisen, SinkTold}
 use Rattle.tnc_main.proofs.Common.{Status, IsEndTold, IsLiveCode}
 use Rattle.tnc_main.specs.declared.status.Status.TheVariants.{WriteFault as OutputFailed}
 
 -- the status is the end's own, and the report did not fail; or it failed
-abbrev pub Settled : Status → Status → Stream → Stream → Type 0
+abbrev pub Settled : Status → Status → SinkTold → SinkTold → Type 0
 Settled own status before after =
     ((status ≡ own) × (after.faults ≡ before.faults)) ⊎ ((status ≡ OutputFailed) × HasRisen before.faults after.faults)
 
-pub settled : (line : Option (List ℕ)) (own status : Status) (before after : Stream)
+pub settled : (line : Option (List ℕ)) (own status : Status) (before after : SinkTold)
     → IsEndTold line own status before after → Settled own status before after
-settled None own status before after (is, same) = inl (is, ap (λ (s : Stream). s.faults) same)
+settled None own status before after (is, same) = inl (is, ap (λ (s : SinkTold). s.faults) same)
 settled (Some line) own status before after (inl (is, more)) = inl (is, more.faultless)
 settled (Some line) own status before after (inr (is, part, rose)) = inr (is, rose)
 

@@ -1,11 +1,11 @@
 -- A run with a key is a keyed one, and a run without one leaves the key's line as it was.
+use Rattle.tnc_base.specs.Streams.{SourceTold}
 use Rattle.tnc_main.proofs.Common.{◌≡◌, inl, inr, ap, ◌∙◌}
 use Rattle.std.specs.Prelude.{ℕ, false, List, Option, Some, None, option_map}
 use Rattle.key_port.specs.KeyLines.{KeyLine, LineTold, is_open}
 use Rattle.tnc_words.specs.declared.command.PttOptions.{PttOptions}
 use Rattle.tnc_words.specs.declared.command.ServeOptions.{ServeOptions}
 use Rattle.tnc_ports.specs.SampledRun.{Outside}
-use Rattle.tnc_ports.specs.ServeRun.{InputSide}
 use Rattle.tnc_ports.proofs.KeyServed.{keyed_as, keyed_served, line_untouched, still}
 use Rattle.tnc_ports.specs.RunTicks.{ticks_served}
 use Rattle.tnc_main.specs.declared.status.Status.{Status}
@@ -23,14 +23,15 @@ told_line (Some line) own status between after (inr (is, less)) =
     (ap (λ (o : Outside). o.line) less.others, ap (λ (o : Outside). o.output) less.others)
 
 pub keyed_from : (options : ServeOptions) (ptt : PttOptions) (outer : ℕ) (was : List KeyLine) (out : List ℕ)
-    (status : Status) (input left : InputSide) (before after : Outside) → options.ptt ≡ Some ptt
-    → before.line.lines ≡ Some was → is_open was ≡ false → before.output ≡ Some out
+    (status : Status) (input left : SourceTold) (before after : Outside) → options.ptt ≡ Some ptt
+    → before.line.lines ≡ Some was → is_open was ≡ false → before.output.written ≡ Some out
     → RunsLive options outer status input left before after
     → RunsKeyed options ptt outer was out status input left before after
 keyed_from options ptt outer was out status input left before after is lines closed output (inl h) = (
   inl h,
   still (words_of options outer) (key_of ptt) (ap (option_map key_of) is) was out closed after
-      (ap (λ (o : Outside). o.line.lines) h.untouched ∙ lines) (ap (λ (o : Outside). o.output) h.untouched ∙ output),
+      (ap (λ (o : Outside). o.line.lines) h.untouched ∙ lines) (ap (λ (o : Outside). o.output.written) h.untouched
+      ∙ output),
 )
 keyed_from options ptt outer was out status input left before after is lines closed output (inr h) =
     let last = told_line (last_line h.end) (status_of_end h.end) status h.between after h.told in (
@@ -42,7 +43,7 @@ keyed_from options ptt outer was out status input left before after is lines clo
           before h.between h.served lines output),
     )
 
-pub unkeyed_from : (options : ServeOptions) (outer : ℕ) (status : Status) (input left : InputSide)
+pub unkeyed_from : (options : ServeOptions) (outer : ℕ) (status : Status) (input left : SourceTold)
     (before after : Outside) → options.ptt ≡ None → RunsLive options outer status input left before after
     → after.line ≡ before.line
 unkeyed_from options outer status input left before after none (inl h) = ap (λ (o : Outside). o.line) h.untouched

@@ -1,6 +1,6 @@
 -- What the exit status of a live station says.
 use Rattle.tnc_main.proofs.Common.{◌≡◌, ℕ, ◌≤◌, List, length, Option, Some, inl, inr, sym, subst, ap, ◌∙◌, arith, ◌⊎◌}
-use Rattle.tnc_main.proofs.Common.{HasRisen, ServeOptions, input_limit, ServeWords, Outside, InputSide, Status, Done}
+use Rattle.tnc_main.proofs.Common.{HasRisen, ServeOptions, input_limit, ServeWords, Outside, SourceTold, Status, Done}
 use Rattle.tnc_main.proofs.Common.{BadWords, ReadFault, WriteFault, NoPort, RunsLive, Serves, words_of, code_of}
 use Rattle.tnc_main.proofs.Common.{IsLiveCode}
 use Rattle.tnc_main.specs.declared.status.Status.TheVariants.{Stray, NotQuiet, Spent}
@@ -9,7 +9,7 @@ use Rattle.tnc_main.proofs.ServingLemmas.{ends_well, nothing_spent, nothing_stra
 use Rattle.tnc_main.proofs.ServingLemmas.{up_to_ten, words_are_good}
 use Rattle.tnc_main.proofs.Statuses.{one_status}
 
-module _ (words : ServeWords) (code : ℕ) (input left : InputSide) (before after : Outside)
+module _ (words : ServeWords) (code : ℕ) (input left : SourceTold) (before after : Outside)
     (h : (status : Status) × (code ≡ code_of status) × Serves words status input left before after) where
   status_is : (status : Status) → code ≡ code_of status → h.0 ≡ status
   status_is status is = one_status h.0 status (sym h.1 ∙ is)
@@ -17,8 +17,8 @@ module _ (words : ServeWords) (code : ℕ) (input left : InputSide) (before afte
   ends : Ends words input left before h.2.between after h.0 h.2.end
   ends = (h.2.served, h.2.told)
 
-  pub faultless : code ≡ 0 → (left.faults ≡ input.faults) × (after.output_faults ≡ before.output_faults)
-      × (after.report_faults ≡ before.report_faults)
+  pub faultless : code ≡ 0 → (left.faults ≡ input.faults) × (after.output.faults ≡ before.output.faults)
+      × (after.report.faults ≡ before.report.faults)
   faultless is = at_done words input left before h.2.between after h.0 h.2.end ends (status_is Done is)
 
   pub read_fault : code ≡ 4 → HasRisen input.faults left.faults
@@ -45,8 +45,8 @@ module _ (words : ServeWords) (code : ℕ) (input left : InputSide) (before afte
   ]
 
   pub complete : (octets : List ℕ) → input.left ≡ Some octets → length octets ≤ input_limit
-      → (HasRisen input.faults left.faults → ⊥) → (HasRisen before.output_faults after.output_faults → ⊥)
-      → (HasRisen before.report_faults after.report_faults → ⊥) → (HasRisen before.ports.faults after.ports.faults → ⊥)
+      → (HasRisen input.faults left.faults → ⊥) → (HasRisen before.output.faults after.output.faults → ⊥)
+      → (HasRisen before.report.faults after.report.faults → ⊥) → (HasRisen before.ports.faults after.ports.faults → ⊥)
       → (code ≡ 0) ⊎ (code ≡ 3)
   complete octets tells few no_read no_write no_report no_port =
       elim (ends_well words input left before h.2.between after h.0 h.2.end ends octets tells few no_read no_write
@@ -56,7 +56,7 @@ module _ (words : ServeWords) (code : ℕ) (input left : InputSide) (before afte
       ]
 
 -- what was served as some words ask for it was served as options that give these words ask for it
-pub served_as : (words : ServeWords) (options : ServeOptions) (outer code : ℕ) (input left : InputSide)
+pub served_as : (words : ServeWords) (options : ServeOptions) (outer code : ℕ) (input left : SourceTold)
     (before after : Outside) → words ≡ words_of options outer
     → (status : Status) × (code ≡ code_of status) × Serves words status input left before after
     → (status : Status) × (code ≡ code_of status) × Serves (words_of options outer) status input left before after
@@ -64,7 +64,7 @@ served_as words options outer code input left before after same h =
     (h.0, h.1, subst (λ w. Serves w h.0 input left before after) same h.2)
 
 -- what holds from an input and an outside on holds from equal ones on
-pub rebased : (options : ServeOptions) (outer code : ℕ) (was input left : InputSide) (stood before after : Outside)
+pub rebased : (options : ServeOptions) (outer code : ℕ) (was input left : SourceTold) (stood before after : Outside)
     → was ≡ input → stood ≡ before
     → (status : Status) × (code ≡ code_of status) × Serves (words_of options outer) status was left stood after
     → (status : Status) × (code ≡ code_of status) × RunsLive options outer status input left before after

@@ -1,12 +1,13 @@
 -- What the exit status of a recording says of the counts of faults, and that only few statuses are its own.
+use Rattle.tnc_base.specs.Streams.{SourceTold}
 use Rattle.tnc_main.proofs.Common.{◌≡◌, ℕ, ◌≤◌, List, length, length-append, Some, inl, inr, refl, sym, subst, ap, ◌∙◌}
 use Rattle.tnc_main.proofs.Common.{arith, ◌⊎◌, HasRisen, RecordOptions, input_limit, LoopEnd, PumpEnd, InputEnd}
-use Rattle.tnc_main.proofs.Common.{IsPumped, Stream, Status, BadInput, IsEndTold, code_of, IsLiveCode}
+use Rattle.tnc_main.proofs.Common.{IsPumped, SinkTold, Status, BadInput, IsEndTold, code_of, IsLiveCode}
 use Rattle.tnc_ports.specs.declared.looping.LoopEnd.TheVariants.{Done as LoopDone, Memory as LoopMemory}
 use Rattle.tnc_ports.specs.declared.looping.LoopEnd.TheVariants.{WriteFault as LoopFault}
 use Rattle.tnc_ports.specs.declared.pumping.PumpEnd.TheVariants.{ReadFault as PumpFailed, TooLong as InputTooLong}
 use Rattle.sound_rate.specs.declared.rate.Rate.TheVariants.{Narrow}
-use Rattle.tnc_ports.specs.PumpRun.{InputSide, ReadFaults}
+use Rattle.tnc_ports.specs.PumpRun.{ReadFaults}
 use Rattle.tnc_record.specs.declared.recording.RecordEnd.{RecordEnd}
 use Rattle.tnc_record.specs.declared.recording.RecordEnd.TheVariants.{Done, TooLong, Memory, NoThread, ReadFault}
 use Rattle.tnc_record.specs.declared.recording.RecordEnd.TheVariants.{WriteFault}
@@ -22,7 +23,7 @@ use Rattle.tnc_main.proofs.Statuses.{one_status}
 
 -- ---- when recording has ended
 
-module _ (words : RecordWords) (input left : InputSide) (output output' report report' : Stream)
+module _ (words : RecordWords) (input left : SourceTold) (output output' report report' : SinkTold)
     (recording : Recording) where
   by_done : (loop : LoopEnd) (pump : PumpEnd) → Done ≡ end_of loop pump
       → IsLooped words loop recording output output' report report' → ReadFaults pump input left
@@ -59,7 +60,7 @@ module _ (words : RecordWords) (input left : InputSide) (output output' report r
   by_write_fault LoopMemory pump is looped = cc is
   by_write_fault LoopFault pump is looped = looped.1.failed
 
-module _ (words : RecordWords) (input left : InputSide) (output output' report report' : Stream) where
+module _ (words : RecordWords) (input left : SourceTold) (output output' report report' : SinkTold) where
   done : HasRecorded words Done input left output output' report report'
       → (left.faults ≡ input.faults) × (output'.faults ≡ output.faults) × (report'.faults ≡ report.faults)
   done h = by_done words input left output output' report report' h.recording h.loop h.pump h.ends h.looped h.faults
@@ -97,7 +98,7 @@ code_of_end NoThread = (stopped 3 (omega arith) (omega arith), omega arith)
 code_of_end ReadFault = (stopped 4 (omega arith) (omega arith), omega arith)
 code_of_end WriteFault = (stopped 5 (omega arith) (omega arith), omega arith)
 
-module _ (words : RecordWords) (input left : InputSide) (output output' report between report' : Stream)
+module _ (words : RecordWords) (input left : SourceTold) (output output' report between report' : SinkTold)
     (status : Status) where
   abbrev pub Ends : RecordEnd → Type 0
   Ends end = IsRecorded words end input left output output' report between
@@ -107,7 +108,7 @@ module _ (words : RecordWords) (input left : InputSide) (output output' report b
       → (left.faults ≡ input.faults) × (output'.faults ≡ output.faults) × (report'.faults ≡ report.faults)
   at_done Done (recorded, (is, same)) e =
       let all = done words input left output output' report between recorded in
-      (all.0, all.1, ap (λ (s : Stream). s.faults) same ∙ all.2)
+      (all.0, all.1, ap (λ (s : SinkTold). s.faults) same ∙ all.2)
   at_done TooLong (recorded, inl (is, more)) e = let both : WellDone ≡ BadInput = sym e ∙ is in cc both
   at_done TooLong (recorded, inr (is, part, rose)) e = let both : WellDone ≡ OutputFailed = sym e ∙ is in cc both
   at_done Memory (recorded, (is, same)) e = let both : WellDone ≡ NoMemory = sym e ∙ is in cc both
@@ -135,7 +136,7 @@ module _ (words : RecordWords) (input left : InputSide) (output output' report b
   at_write_fault NoThread (recorded, (is, same)) e = let both : OutputFailed ≡ NoMemory = sym e ∙ is in cc both
   at_write_fault ReadFault (recorded, (is, same)) e = let both : OutputFailed ≡ InputFailed = sym e ∙ is in cc both
   at_write_fault WriteFault (recorded, (is, same)) e =
-      subst (λ (s : Stream). HasRisen output.faults output'.faults ⊎ HasRisen report.faults s.faults) (sym same)
+      subst (λ (s : SinkTold). HasRisen output.faults output'.faults ⊎ HasRisen report.faults s.faults) (sym same)
       (write_failed words input left output output' report between recorded)
 
   -- good words, an input that is not too long, and no count that rises
@@ -164,7 +165,7 @@ module _ (words : RecordWords) (input left : InputSide) (output output' report b
 
 -- ---- by the exit status
 
-module _ (words : RecordWords) (code : ℕ) (input left : InputSide) (output output' report report' : Stream)
+module _ (words : RecordWords) (code : ℕ) (input left : SourceTold) (output output' report report' : SinkTold)
     (h : (status : Status) × (code ≡ code_of status) × Records words status input left output output' report report')
   where
     status_is : (status : Status) → code ≡ code_of status → h.0 ≡ status
@@ -207,16 +208,16 @@ module _ (words : RecordWords) (code : ℕ) (input left : InputSide) (output out
 -- ---- equal words, inputs and streams
 
 -- what was recorded as some words ask for it was recorded as equal ones ask for it
-pub recorded_as : (words other : RecordWords) (code : ℕ) (input left : InputSide)
-    (output output' report report' : Stream) → words ≡ other
+pub recorded_as : (words other : RecordWords) (code : ℕ) (input left : SourceTold)
+    (output output' report report' : SinkTold) → words ≡ other
     → (status : Status) × (code ≡ code_of status) × Records words status input left output output' report report'
     → (status : Status) × (code ≡ code_of status) × Records other status input left output output' report report'
 recorded_as words other code input left output output' report report' same h =
     (h.0, h.1, subst (λ w. Records w h.0 input left output output' report report') same h.2)
 
 -- what was recorded from an input and streams on was recorded from equal ones on
-pub recorded_from : (options : RecordOptions) (code : ℕ) (was input left : InputSide)
-    (stood output output' told report report' : Stream) → was ≡ input → stood ≡ output → told ≡ report
+pub recorded_from : (options : RecordOptions) (code : ℕ) (was input left : SourceTold)
+    (stood output output' told report report' : SinkTold) → was ≡ input → stood ≡ output → told ≡ report
     → (status : Status) × (code ≡ code_of status)
     × Records (words_of options) status was left stood output' told report'
     → (status : Status) × (code ≡ code_of status)

@@ -1,7 +1,8 @@
 -- What the status of a live station says of the counts of faults, and that only few statuses are its own.
 use Rattle.tnc_main.proofs.Common.{◌≡◌, ℕ, ◌≤◌, List, length, length-append, Some, inl, inr, refl, sym, subst, ap, ◌∙◌}
 use Rattle.tnc_main.proofs.Common.{arith, ◌⊎◌, HasRisen, ServeOptions, input_limit, LoopEnd, PumpEnd, InputEnd}
-use Rattle.tnc_main.proofs.Common.{ServeWords, IsPumped, Outside, InputSide, Status, BadWords, BadInput, RunsLive}
+use Rattle.tnc_main.proofs.Common.{ServeWords, IsPumped, Outside, SinkTold, SourceTold, Status, BadWords, BadInput}
+use Rattle.tnc_main.proofs.Common.{RunsLive}
 use Rattle.tnc_main.proofs.Common.{words_of, code_of}
 use Rattle.sample_ring.specs.declared.got.Got.{Got}
 use Rattle.tnc_ports.specs.declared.looping.LoopEnd.TheVariants.{Done as LoopDone, Memory as LoopMemory}
@@ -22,19 +23,19 @@ use Rattle.tnc_main.specs.Serving.{IsInWant, IsServedInWant, IsToldAs, LacksLine
 
 -- no write failed
 abbrev AreWritten : Outside → Outside → Type 0
-AreWritten before after = (after.output_faults ≡ before.output_faults) × (after.report_faults ≡ before.report_faults)
+AreWritten before after = (after.output.faults ≡ before.output.faults) × (after.report.faults ≡ before.report.faults)
 
 -- some write failed
 abbrev pub WritesFailed : Outside → Outside → Type 0
-WritesFailed before after = HasRisen before.output_faults after.output_faults
-    ⊎ HasRisen before.report_faults after.report_faults
+WritesFailed before after = HasRisen before.output.faults after.output.faults
+    ⊎ HasRisen before.report.faults after.report.faults
 
-module _ (words : ServeWords) (input left : InputSide) (before open_ports after : Outside) (lanes : List (List Got))
+module _ (words : ServeWords) (input left : SourceTold) (before open_ports after : Outside) (lanes : List (List Got))
     (only : OnlyListens before open_ports) where
   all_written : IsLooped words LoopDone lanes open_ports after → AreWritten before after
   all_written looped = (
-    looped.2.written.no_output_fault ∙ only.output_faults,
-    looped.2.written.no_report_fault ∙ only.report_faults,
+    looped.2.written.no_output_fault ∙ ap (λ (t : SinkTold). t.faults) only.output,
+    looped.2.written.no_report_fault ∙ ap (λ (t : SinkTold). t.faults) only.report,
   )
 
   by_done : (loop : LoopEnd) (pump : PumpEnd) → Done ≡ end_of loop pump → IsLooped words loop lanes open_ports after
@@ -70,11 +71,11 @@ module _ (words : ServeWords) (input left : InputSide) (before open_ports after 
   by_write_fault LoopDone InputTooLong is looped = cc is
   by_write_fault LoopMemory pump is looped = cc is
   by_write_fault LoopFault pump is looped = elim looped.2.failed [
-    | inl output ↦ inl (subst (λ n. HasRisen n after.output_faults) only.output_faults output)
-    | inr report ↦ inr (subst (λ n. HasRisen n after.report_faults) only.report_faults report)
+    | inl output ↦ inl (subst (λ (t : SinkTold). HasRisen t.faults after.output.faults) only.output output)
+    | inr report ↦ inr (subst (λ (t : SinkTold). HasRisen t.faults after.report.faults) only.report report)
   ]
 
-module _ (words : ServeWords) (input left : InputSide) (before after : Outside) where
+module _ (words : ServeWords) (input left : SourceTold) (before after : Outside) where
   done : HasServed words Done input left before after → (left.faults ≡ input.faults) × AreWritten before after
   done h = by_done words input left before h.open_ports after h.lanes h.opens.only h.loop h.pump h.ends h.looped
       h.faults
@@ -102,23 +103,23 @@ module _ (words : ServeWords) (input left : InputSide) (before after : Outside) 
 -- ---- when the end was told
 
 -- a line that was cut is a write that failed
-cut_line : (line : List ℕ) (before between after : Outside) → between.report_faults ≡ before.report_faults
+cut_line : (line : List ℕ) (before between after : Outside) → between.report.faults ≡ before.report.faults
     → LacksLine line between after → WritesFailed before after
-cut_line line before between after same h = inr (subst (λ n. HasRisen n after.report_faults) same h.failed)
+cut_line line before between after same h = inr (subst (λ n. HasRisen n after.report.faults) same h.failed)
 
-module _ (words : ServeWords) (input left : InputSide) (before between after : Outside) (status : Status) where
+module _ (words : ServeWords) (input left : SourceTold) (before between after : Outside) (status : Status) where
   abbrev pub Ends : ServeEnd → Type 0
   Ends end = IsServed words end input left before between
       × IsToldAs (last_line end) (status_of_end end) status between after
 
   pub at_done : (end : ServeEnd) → Ends end → status ≡ WellDone
-      → (left.faults ≡ input.faults) × (after.output_faults ≡ before.output_faults)
-      × (after.report_faults ≡ before.report_faults)
+      → (left.faults ≡ input.faults) × (after.output.faults ≡ before.output.faults)
+      × (after.report.faults ≡ before.report.faults)
   at_done Done (served, (is, same)) e =
       let counts = done words input left before between served in (
         counts.0,
-        ap (λ (o : Outside). o.output_faults) same ∙ counts.1.0,
-        ap (λ (o : Outside). o.report_faults) same
+        ap (λ (o : Outside). o.output.faults) same ∙ counts.1.0,
+        ap (λ (o : Outside). o.report.faults) same
             ∙ counts.1.1,
       )
   at_done TooLong (served, inl (is, more)) e = let both : WellDone ≡ BadInput = sym e ∙ is in cc both
@@ -152,7 +153,8 @@ module _ (words : ServeWords) (input left : InputSide) (before between after : O
   at_write_fault WriteFault (served, (is, same)) e = subst (WritesFailed before) (sym same)
       (write_failed words input left before between served)
   at_write_fault NoPort (served, inl (is, more)) e = let both : OutputFailed ≡ PortsFailed = sym e ∙ is in cc both
-  at_write_fault NoPort (served, inr (is, less)) e = cut_line _ before between after served.1.only.report_faults less
+  at_write_fault NoPort (served, inr (is, less)) e = cut_line _ before between after
+      (ap (λ (t : SinkTold). t.faults) served.1.only.report) less
 
   pub at_no_port : (end : ServeEnd) → Ends end → status ≡ PortsFailed → HasRisen before.ports.faults after.ports.faults
   at_no_port Done (served, (is, same)) e = let both : PortsFailed ≡ WellDone = sym e ∙ is in cc both
@@ -169,8 +171,8 @@ module _ (words : ServeWords) (input left : InputSide) (before between after : O
   -- good words, an input that is not too long, and no count that rises
   pub ends_well : (end : ServeEnd) → Ends end → (octets : List ℕ) → input.left ≡ Some octets
       → length octets ≤ input_limit
-      → (HasRisen input.faults left.faults → ⊥) → (HasRisen before.output_faults after.output_faults → ⊥)
-      → (HasRisen before.report_faults after.report_faults → ⊥) → (HasRisen before.ports.faults after.ports.faults → ⊥)
+      → (HasRisen input.faults left.faults → ⊥) → (HasRisen before.output.faults after.output.faults → ⊥)
+      → (HasRisen before.report.faults after.report.faults → ⊥) → (HasRisen before.ports.faults after.ports.faults → ⊥)
       → (status ≡ WellDone) ⊎ (status ≡ NoMemory)
   ends_well Done (served, (is, same)) octets tells few no_read no_write no_report no_port = inl is
   ends_well TooLong (served, told) octets tells few no_read no_write no_report no_port =
@@ -274,7 +276,7 @@ module _ (end : ServeEnd) (status : Status) (between after : Outside)
   ]
 
 -- what status 3 stands for
-module _ (words : ServeWords) (input left : InputSide) (before between after : Outside) (status : Status)
+module _ (words : ServeWords) (input left : SourceTold) (before between after : Outside) (status : Status)
     (threads threads_after : ℕ) where
   pub in_want : (end : ServeEnd) → Ends words input left before between after status end
       → (end ≡ NoThread → HasRisen threads threads_after) → ((end ≡ NoThread → ⊥) → threads_after ≡ threads)
@@ -292,14 +294,14 @@ module _ (words : ServeWords) (input left : InputSide) (before between after : O
   in_want NoPort (served, inr (is, less)) risen kept e = let both : NoMemory ≡ OutputFailed = sym e ∙ is in cc both
 
 -- words that are equal
-pub want_as : (words other : ServeWords) (threads threads_after : ℕ) (input left : InputSide) (before after : Outside)
+pub want_as : (words other : ServeWords) (threads threads_after : ℕ) (input left : SourceTold) (before after : Outside)
     → words ≡ other → IsServedInWant words threads threads_after input left before after
     → IsServedInWant other threads threads_after input left before after
 want_as words other threads threads_after input left before after same h =
     subst (λ w. IsServedInWant w threads threads_after input left before after) same h
 
 -- from an input and an outside on that are equal to these
-pub want_from : (options : ServeOptions) (outer threads threads_after : ℕ) (was input left : InputSide)
+pub want_from : (options : ServeOptions) (outer threads threads_after : ℕ) (was input left : SourceTold)
     (stood before after : Outside) → was ≡ input → stood ≡ before
     → IsServedInWant (words_of options outer) threads threads_after was left stood after
     → IsInWant options outer threads threads_after input left before after

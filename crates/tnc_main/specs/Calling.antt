@@ -1,7 +1,7 @@
 -- A run of `call`: what it is asked for, how it ends, and what is told of its end.
 use Rattle.std.specs.Prelude.{◌≡◌, ◌⊎◌, ℕ, List, Option, Some, None}
+use Rattle.tnc_base.specs.Streams.{SinkTold}
 use Rattle.tnc_words.specs.declared.command.CallOptions.{CallOptions}
-use Rattle.tnc_ports.specs.SampledWrites.{Stream}
 use Rattle.tnc_call.specs.declared.call_end.CallEnd.{CallEnd}
 use Rattle.tnc_call.specs.declared.call_end.CallEnd.TheVariants.{Done, TooLong, Memory, ReadFault, WriteFault, NoHost}
 use Rattle.tnc_call.specs.declared.call_end.CallEnd.TheVariants.{Refused, HostLost, Broken, GaveUp}
@@ -58,22 +58,22 @@ line_of_end (GaveUp polls) = Some (gave_up_line polls)
 
 -- The input is this text, and the output was this before: a call was made until an end, which was told.
 pub record Calls (words : CallWords) (text before : List ℕ) (written : Option (List ℕ)) (start now : PortsTold)
-    (status : Status) (report after : Stream) : Type 0 where
+    (status : Status) (report after : SinkTold) : Type 0 where
   pub end : CallEnd
   pub called : IsCalled words text before written start now end
   pub told : IsEndToldOrWanted (line_of_end end) (status_of_end end) status report after
 
 -- there was no memory for the words, and nothing was done
 pub record HasNotCalled (before : List ℕ) (written : Option (List ℕ)) (start now : PortsTold) (status : Status)
-    (report after : Stream) : Type 0 where
+    (report after : SinkTold) : Type 0 where
   pub memory : status ≡ NoMemory
   pub unwritten : written ≡ Some before
   pub untouched : now ≡ start
   pub untold : after ≡ report
 
 -- The options are those of `call`: the call was made, or there was no memory to begin.
-abbrev pub RunsCall : CallOptions → List ℕ → List ℕ → Option (List ℕ) → PortsTold → PortsTold → Status → Stream
-    → Stream → Type 0
+abbrev pub RunsCall : CallOptions → List ℕ → List ℕ → Option (List ℕ) → PortsTold → PortsTold → Status → SinkTold
+    → SinkTold → Type 0
 RunsCall options text before written start now status report after =
     HasNotCalled before written start now status report after
     ⊎ Calls (words_of options) text before written start now status report after

@@ -1,9 +1,8 @@
 -- A run of `record`: what it is asked for, how it ends, and what is told last.
 use Rattle.std.specs.Prelude.{◌≡◌, ◌⊎◌, ℕ, List, Option, Some, None}
+use Rattle.tnc_base.specs.Streams.{SinkTold, SourceTold}
 use Rattle.tnc_words.specs.declared.command.RecordOptions.{RecordOptions}
 use Rattle.tnc_forms.specs.declared.fault.InputFault.TheVariants.{TooLong as InputTooLong}
-use Rattle.tnc_ports.specs.PumpRun.{InputSide}
-use Rattle.tnc_ports.specs.SampledWrites.{Stream}
 use Rattle.tnc_record.specs.declared.recording.RecordEnd.{RecordEnd}
 use Rattle.tnc_record.specs.declared.recording.RecordEnd.TheVariants.{Done, TooLong, Memory, NoThread, ReadFault}
 use Rattle.tnc_record.specs.declared.recording.RecordEnd.TheVariants.{WriteFault}
@@ -38,16 +37,17 @@ last_line ReadFault = None
 last_line WriteFault = None
 
 -- The sound was recorded until an end, and the end was told last.
-pub record Records (words : RecordWords) (status : Status) (input left : InputSide)
-    (output output' report report' : Stream) : Type 0 where
+pub record Records (words : RecordWords) (status : Status) (input left : SourceTold)
+    (output output' report report' : SinkTold) : Type 0 where
   pub end : RecordEnd
   -- what the report told when recording had ended
-  pub between : Stream
+  pub between : SinkTold
   pub recorded : IsRecorded words end input left output output' report between
   pub told : IsEndTold (last_line end) (status_of_end end) status between report'
 
 -- The options are those of `record`: the sound was recorded, or there was no memory to begin.
-abbrev pub RunsRecord : RecordOptions → Status → InputSide → InputSide → Stream → Stream → Stream → Stream → Type 0
+abbrev pub RunsRecord : RecordOptions → Status → SourceTold → SourceTold → SinkTold → SinkTold → SinkTold → SinkTold
+    → Type 0
 RunsRecord options status input left output output' report report' =
     ((status ≡ NoMemory) × DoesNothing input left output output' report report')
     ⊎ Records (words_of options) status input left output output' report report'

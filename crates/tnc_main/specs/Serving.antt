@@ -1,7 +1,7 @@
 -- A run of a live command: what a station is asked for, how its serving ends, and what is told last.
 use Rattle.std.specs.Prelude.{◌≡◌, ◌⊎◌, ℕ, List, Option, Some, None, option_map}
 use Rattle.tnc_base.specs.Faults.{HasRisen}
-use Rattle.tnc_base.specs.Streams.{WrotePart}
+use Rattle.tnc_base.specs.Streams.{WrotePart, SourceTold}
 use Rattle.slicer_bank.specs.declared.detection.Detection.{Detection}
 use Rattle.slicer_bank.specs.declared.detection.Detection.TheVariants.{Tones, Flags}
 use Rattle.channel_access.specs.declared.modem.CheckOctets.{CheckOctets as ChannelOctets}
@@ -31,7 +31,7 @@ use Rattle.tnc_ports.specs.declared.serving.ServeEnd.{ServeEnd}
 use Rattle.tnc_ports.specs.declared.serving.ServeEnd.TheVariants.{Done, TooLong, Memory, ReadFault, WriteFault, NoPort}
 use Rattle.tnc_ports.specs.declared.serving.ServeEnd.TheVariants.{NoThread}
 use Rattle.tnc_ports.specs.SampledRun.{Outside, GrowsBy}
-use Rattle.tnc_ports.specs.ServeRun.{InputSide, IsServed}
+use Rattle.tnc_ports.specs.ServeRun.{IsServed}
 use Rattle.tnc_main.specs.declared.status.Status.{Status}
 use Rattle.tnc_main.specs.declared.status.Status.TheVariants.{Done as WellDone, BadInput, Memory as NoMemory}
 use Rattle.tnc_main.specs.declared.status.Status.TheVariants.{ReadFault as InputFailed, WriteFault as OutputFailed}
@@ -129,18 +129,18 @@ last_line NoPort = Some no_port_line
 
 -- but for its report the outside is as it was
 abbrev pub StaysButReport : Outside → Outside → Type 0
-StaysButReport before after = after ≡ record before { report = after.report; report_faults = after.report_faults }
+StaysButReport before after = after ≡ record before { report = after.report }
 
 -- the report has a line more
 pub record HasLineMore (line : List ℕ) (before after : Outside) : Type 0 where
-  pub told : GrowsBy line before.report after.report
-  pub faultless : after.report_faults ≡ before.report_faults
+  pub told : GrowsBy line before.report.written after.report.written
+  pub faultless : after.report.faults ≡ before.report.faults
   pub others : StaysButReport before after
 
 -- the report failed, and has a first part of a line
 pub record LacksLine (line : List ℕ) (before after : Outside) : Type 0 where
-  pub part : (was : List ℕ) → before.report ≡ Some was → WrotePart was line after.report
-  pub failed : HasRisen before.report_faults after.report_faults
+  pub part : (was : List ℕ) → before.report.written ≡ Some was → WrotePart was line after.report.written
+  pub failed : HasRisen before.report.faults after.report.faults
   pub others : StaysButReport before after
 
 -- A line is told with its status, or it could not be written, which is a write fault. If there is none, nothing is
@@ -153,7 +153,7 @@ IsToldAs (Some line) own status before after =
 -- ---- a run
 
 -- A station was served until an end, and the end was told last.
-pub record Serves (words : ServeWords) (status : Status) (input left : InputSide) (before after : Outside)
+pub record Serves (words : ServeWords) (status : Status) (input left : SourceTold) (before after : Outside)
     : Type 0 where
   pub end : ServeEnd
   -- what the outside told when serving had ended
@@ -162,27 +162,27 @@ pub record Serves (words : ServeWords) (status : Status) (input left : InputSide
   pub told : IsToldAs (last_line end) (status_of_end end) status between after
 
 -- there was no memory for the words, and nothing was done
-pub record HasNotBegun (status : Status) (input left : InputSide) (before after : Outside) : Type 0 where
+pub record HasNotBegun (status : Status) (input left : SourceTold) (before after : Outside) : Type 0 where
   pub memory : status ≡ NoMemory
   pub unread : left ≡ input
   pub untouched : after ≡ before
 
 -- The options are those of a live command: a station was served as they ask for it, with a seed of the outside if they
 -- name none, or there was no memory to begin.
-abbrev pub RunsLive : ServeOptions → ℕ → Status → InputSide → InputSide → Outside → Outside → Type 0
+abbrev pub RunsLive : ServeOptions → ℕ → Status → SourceTold → SourceTold → Outside → Outside → Type 0
 RunsLive options outer status input left before after =
     HasNotBegun status input left before after ⊎ Serves (words_of options outer) status input left before after
 
 -- What status 3 of a served station stands for: memory was wanted and not given; or no thread could be started, which the
 -- spawner has counted, and then the ports were opened, nothing was read and no turn was made.
-abbrev pub IsServedInWant : ServeWords → ℕ → ℕ → InputSide → InputSide → Outside → Outside → Type 0
+abbrev pub IsServedInWant : ServeWords → ℕ → ℕ → SourceTold → SourceTold → Outside → Outside → Type 0
 IsServedInWant words threads threads_after input left before after =
     ((threads_after ≡ threads) × IsServed words Memory input left before after)
     ⊎ (HasRisen threads threads_after × IsServed words NoThread input left before after)
 
 -- And of a run: the same, or memory was wanted before serving began. The numbers are a seed of the outside, and how often
 -- no thread could be started, before the run and after it.
-abbrev pub IsInWant : ServeOptions → ℕ → ℕ → ℕ → InputSide → InputSide → Outside → Outside → Type 0
+abbrev pub IsInWant : ServeOptions → ℕ → ℕ → ℕ → SourceTold → SourceTold → Outside → Outside → Type 0
 IsInWant options outer threads threads_after input left before after =
     ((threads_after ≡ threads) × HasNotBegun NoMemory input left before after)
     ⊎ IsServedInWant (words_of options outer) threads threads_after input left before after

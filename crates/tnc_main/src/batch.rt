@@ -68,42 +68,42 @@ pub fn run_batch<Rt: Threads + Sync, I: Source, O: Sink, E: Sink>(
         × ((code ≡ 1) ⊎ ((code ≡ 3) ⊎ (code ≡ 5)))) }
 
     // what a decode hears, and what a bench tells
-    ensures heard { IfOk result (λ code. (job : Job (map string_bytes words.now) (I.left input.old) code)
+    ensures heard { IfOk result (λ code. (job : Job (map string_bytes words.now) (I.told input.old).left code)
         → (decode : DecodeWords) → (received : List Received) → (before : List ℕ)
         → job.command ≡ Command.Decode decode
         → IsNearlyClean (modem_of decode job.octets) (samples_read decode job.octets) received
-        → O.written output.old ≡ Some before
+        → (O.told output.old).written ≡ Some before
         → code ≡ 0
-        → O.written output.new ≡ Some (before ++ print decode.frames (frames_of (transmissions_of received)))) }
-    ensures heard_in_blocks { IfOk result (λ code. (job : Job (map string_bytes words.now) (I.left input.old) code)
+        → (O.told output.new).written ≡ Some (before ++ print decode.frames (frames_of (transmissions_of received)))) }
+    ensures heard_in_blocks { IfOk result (λ code. (job : Job (map string_bytes words.now) (I.told input.old).left code)
         → (decode : DecodeWords) → (units : List SentUnit) → (before : List ℕ)
         → job.command ≡ Command.Decode decode → decode.receiving ≡ Receiving.Fx25
         → CarriesUnits (samples_read decode job.octets) units
-        → O.written output.old ≡ Some before
+        → (O.told output.old).written ≡ Some before
         → code ≡ 0
-        → O.written output.new ≡ Some (before ++ print decode.frames (map (λ unit. unit.octets) units))) }
-    ensures repaired { IfOk result (λ code. (job : Job (map string_bytes words.now) (I.left input.old) code)
+        → (O.told output.new).written ≡ Some (before ++ print decode.frames (map (λ unit. unit.octets) units))) }
+    ensures repaired { IfOk result (λ code. (job : Job (map string_bytes words.now) (I.told input.old).left code)
         → (decode : DecodeWords) → (received : List ReceivedBlocks) → (before : List ℕ)
         → job.command ≡ Command.Decode decode → decode.receiving ≡ Receiving.Fx25
         → IsNearButForStretches (samples_read decode job.octets) received
-        → O.written output.old ≡ Some before
+        → (O.told output.old).written ≡ Some before
         → code ≡ 0
-        → O.written output.new ≡ Some (before ++ print decode.frames (frames_in_blocks received))) }
+        → (O.told output.new).written ≡ Some (before ++ print decode.frames (frames_in_blocks received))) }
     ensures benched { IfOk result (λ code. (bench : BenchOptions) → (before : List ℕ)
-        → IsBench (map string_bytes words.now) bench → O.written output.old ≡ Some before → code ≡ 0
+        → IsBench (map string_bytes words.now) bench → (O.told output.old).written ≡ Some before → code ≡ 0
         → (told : Report) × IsOver (bench_words bench) told × KeepsOrder (bench_words bench) told
-        × (O.written output.new ≡ Some (before ++ report_text told))) }
+        × ((O.told output.new).written ≡ Some (before ++ report_text told))) }
 
     // what each command reads and writes
-    ensures read { IfOk result (λ code. (job : Job (map string_bytes words.now) (I.left input.old) code)
-        → Leaves job.command job.octets job.status (I.left input.new)) }
-    ensures written { IfOk result (λ code. (job : Job (map string_bytes words.now) (I.left input.old) code)
-        → (before : List ℕ) → O.written output.old ≡ Some before → (text : List ℕ)
-        × Writes job.command job.octets (I.left input.new) job.status text
-        × (O.written output.new ≡ Some (before ++ text))) }
+    ensures read { IfOk result (λ code. (job : Job (map string_bytes words.now) (I.told input.old).left code)
+        → Leaves job.command job.octets job.status (I.told input.new).left) }
+    ensures written { IfOk result (λ code. (job : Job (map string_bytes words.now) (I.told input.old).left code)
+        → (before : List ℕ) → (O.told output.old).written ≡ Some before → (text : List ℕ)
+        × Writes job.command job.octets (I.told input.new).left job.status text
+        × ((O.told output.new).written ≡ Some (before ++ text))) }
     ensures unwritten { (command : Command) → Asks (map string_bytes words.now) command → WritesAtEnd command
         → IfOk result (λ code. code ≡ 4 → output.new ≡ output.old) }
-    ensures too_long { IfOk result (λ code. (job : Job (map string_bytes words.now) (I.left input.old) code)
+    ensures too_long { IfOk result (λ code. (job : Job (map string_bytes words.now) (I.told input.old).left code)
         → WritesAtEnd job.command → input_limit < length job.octets → code ≡ 2 → output.new ≡ output.old) }
     ensures unread { (command : Command) → Asks (map string_bytes words.now) command → ReadsNothing command
         → input.new ≡ input.old }
@@ -112,14 +112,15 @@ pub fn run_batch<Rt: Threads + Sync, I: Source, O: Sink, E: Sink>(
 
     // each status and its cause
     ensures known { IfOk result (λ code. (status : Status) × (code ≡ code_of status)) }
-    ensures cause { IfOk result (λ code. (job : Job (map string_bytes words.now) (I.left input.old) code)
+    ensures cause { IfOk result (λ code. (job : Job (map string_bytes words.now) (I.told input.old).left code)
         → IsCaused job.command job.octets job.status) }
-    ensures faultless { IfOk result (λ code. code ≡ 0 → (I.faults input.new ≡ I.faults input.old)
-        × (O.faults output.new ≡ O.faults output.old) × (E.faults report.new ≡ E.faults report.old)) }
-    ensures read_fault { IfOk result (λ code. code ≡ 4 → HasRisen (I.faults input.old) (I.faults input.new)) }
+    ensures faultless { IfOk result (λ code. code ≡ 0 → ((I.told input.new).faults ≡ (I.told input.old).faults)
+        × ((O.told output.new).faults ≡ (O.told output.old).faults)
+        × ((E.told report.new).faults ≡ (E.told report.old).faults)) }
+    ensures read_fault { IfOk result (λ code. code ≡ 4 → HasRisen (I.told input.old).faults (I.told input.new).faults) }
     ensures write_fault { IfOk result (λ code. code ≡ 5
-        → HasRisen (O.faults output.old) (O.faults output.new)
-        ⊎ HasRisen (E.faults report.old) (E.faults report.new)) }
+        → HasRisen (O.told output.old).faults (O.told output.new).faults
+        ⊎ HasRisen (E.told report.old).faults (E.told report.new).faults) }
     ensures stray { IfOk result (λ code. code ≡ 6 → (command : Command) × Asks (map string_bytes words.now) command
         × ((frame : List ℕ) × Strays command frame)) }
     ensures not_quiet { IfOk result (λ code. code ≡ 7 → (command : Command)
@@ -130,19 +131,19 @@ pub fn run_batch<Rt: Threads + Sync, I: Source, O: Sink, E: Sink>(
 
     // what is told
     ensures silent { IfOk result (λ code. (code ≡ 0) ⊎ ((code ≡ 3) ⊎ (code ≡ 4)) → report.new ≡ report.old) }
-    ensures told { IfOk result (λ code. (job : Job (map string_bytes words.now) (I.left input.old) code)
-        → (before : List ℕ) → E.written report.old ≡ Some before → (line : List ℕ)
-        × Tells job.command job.octets job.status line × (E.written report.new ≡ Some (before ++ line))) }
+    ensures told { IfOk result (λ code. (job : Job (map string_bytes words.now) (I.told input.old).left code)
+        → (before : List ℕ) → (E.told report.old).written ≡ Some before → (line : List ℕ)
+        × Tells job.command job.octets job.status line × ((E.told report.new).written ≡ Some (before ++ line))) }
     ensures bad_words_told { (before : List ℕ) → AskNothing (map string_bytes words.now)
-        → E.written report.old ≡ Some before
-        → IfOk result (λ code. (code ≡ 1 → E.written report.new ≡ Some (before ++ bad_words_line))
-        × (code ≡ 5 → WrotePart before bad_words_line (E.written report.new))) }
+        → (E.told report.old).written ≡ Some before
+        → IfOk result (λ code. (code ≡ 1 → (E.told report.new).written ≡ Some (before ++ bad_words_line))
+        × (code ≡ 5 → WrotePart before bad_words_line (E.told report.new).written)) }
 
     // completeness: good words, an input without a fault, and no fault of the outside
-    ensures complete { IfOk result (λ code. (job : Job (map string_bytes words.now) (I.left input.old) code)
-        → IsFaultless job.command job.octets → ¬ HasRisen (I.faults input.old) (I.faults input.new)
-        → ¬ HasRisen (O.faults output.old) (O.faults output.new)
-        → ¬ HasRisen (E.faults report.old) (E.faults report.new) → (code ≡ 0) ⊎ (code ≡ 3)) }
+    ensures complete { IfOk result (λ code. (job : Job (map string_bytes words.now) (I.told input.old).left code)
+        → IsFaultless job.command job.octets → ¬ HasRisen (I.told input.old).faults (I.told input.new).faults
+        → ¬ HasRisen (O.told output.old).faults (O.told output.new).faults
+        → ¬ HasRisen (E.told report.old).faults (E.told report.new).faults → (code ≡ 0) ⊎ (code ≡ 3)) }
 {
     match read_words(alloc, words) {
         Ok(Command::Serve(options)) => Err(LiveCommand::Serve(options)),
@@ -161,17 +162,17 @@ pub fn run_batch<Rt: Threads + Sync, I: Source, O: Sink, E: Sink>(
 fn explained<E: Sink>(alloc: Global, end: Result<(), Stop>, report: &mut E) -> Status
     ensures ends { EndsAs end result }
     ensures fault { result ≡ Status.WriteFault → (end ≡ Err Stop.Write)
-        ⊎ (IsErrAnd end IsTold × HasRisen (E.faults report.old) (E.faults report.new)) }
+        ⊎ (IsErrAnd end IsTold × HasRisen (E.told report.old).faults (E.told report.new).faults) }
 
     // what is told
     ensures silent { (result ≡ Status.Done) ⊎ ((result ≡ Status.Memory) ⊎ (result ≡ Status.ReadFault))
         → report.new ≡ report.old }
-    ensures told { (before : List ℕ) → E.written report.old ≡ Some before
+    ensures told { (before : List ℕ) → (E.told report.old).written ≡ Some before
         → (result ≡ Status.BadInput) ⊎ ((result ≡ Status.Stray)
         ⊎ ((result ≡ Status.NotQuiet) ⊎ (result ≡ Status.Spent)))
-        → IfErr end (λ stop. E.written report.new ≡ Some (before ++ line_of stop)) }
-    ensures cut { (before : List ℕ) → E.written report.old ≡ Some before
-        → result ≡ Status.WriteFault → IfErr end (λ stop. WrotePart before (line_of stop) (E.written report.new)) }
+        → IfErr end (λ stop. (E.told report.new).written ≡ Some (before ++ line_of stop)) }
+    ensures cut { (before : List ℕ) → (E.told report.old).written ≡ Some before
+        → result ≡ Status.WriteFault → IfErr end (λ stop. WrotePart before (line_of stop) (E.told report.new).written) }
 {
     match end {
         Ok(()) => Status::Done,

@@ -1,7 +1,6 @@
 //! The command `call`: one connected call through a live station, until it is over.
 ghost use Rattle.std.specs.Prelude.{◌≡◌, ◌≢◌, ◌⊎◌, ℕ, List, Some};
 ghost use Rattle.tnc_base.specs.Faults.{HasRisen};
-ghost use Rattle.tnc_ports.specs.SampledWrites.{stream_of};
 ghost use Rattle.tnc_main.specs.declared.status.Status.{Status};
 ghost use Rattle.tnc_main.specs.Calling.{Calls, line_of_end, status_of_end, words_of};
 ghost use Rattle.tnc_main.specs.EndTold.{IsEndToldOrWanted};
@@ -28,21 +27,22 @@ pub(crate) fn call<Rt: Net, I: Source, O: Sink, E: Sink, N: Ports>(
     report: &mut E,
     ports: &mut N,
 ) -> u8
-    ensures called { (text before : List ℕ) → I.left input.old ≡ Some text → O.written output.old ≡ Some before
+    ensures called { (text before : List ℕ) → (I.told input.old).left ≡ Some text
+        → (O.told output.old).written ≡ Some before
         → (status : Status) × (result ≡ code_of status)
-        × Calls words text before (O.written output.new)
-        (N.told ports.old)
-        (N.told ports.new) status
-        (stream_of E.written E.faults report.old) (stream_of E.written E.faults report.new) }
+        × Calls words text before (O.told output.new).written (N.told ports.old) (N.told ports.new) status
+        (E.told report.old) (E.told report.new) }
 
     // each status and its cause
     ensures known { (status : Status) × (result ≡ code_of status) }
     ensures own { IsLiveCode result }
-    ensures faultless { result ≡ 0 → (I.faults input.new ≡ I.faults input.old)
-        × (O.faults output.new ≡ O.faults output.old) × (E.faults report.new ≡ E.faults report.old) }
-    ensures read_fault { result ≡ 4 → HasRisen (I.faults input.old) (I.faults input.new) }
+    ensures faultless { result ≡ 0 → ((I.told input.new).faults ≡ (I.told input.old).faults)
+        × ((O.told output.new).faults ≡ (O.told output.old).faults)
+        × ((E.told report.new).faults ≡ (E.told report.old).faults) }
+    ensures read_fault { result ≡ 4 → HasRisen (I.told input.old).faults (I.told input.new).faults }
     ensures write_fault { result ≡ 5
-        → HasRisen (O.faults output.old) (O.faults output.new) ⊎ HasRisen (E.faults report.old) (E.faults report.new) }
+        → HasRisen (O.told output.old).faults (O.told output.new).faults
+        ⊎ HasRisen (E.told report.old).faults (E.told report.new).faults }
     ensures listens_not { result ≢ 10 }
     ensures no_host { result ≡ 11 → HasRisen (N.told ports.old).faults (N.told ports.new).faults }
 {
@@ -52,8 +52,7 @@ pub(crate) fn call<Rt: Net, I: Source, O: Sink, E: Sink, N: Ports>(
 
 /// The status of an end, with the line that explains it.
 fn tell_end<E: Sink>(alloc: Global, end: CallEnd, report: &mut E) -> Status
-    ensures { IsEndToldOrWanted (line_of_end end) (status_of_end end) result
-        (stream_of E.written E.faults report.old) (stream_of E.written E.faults report.new) }
+    ensures { IsEndToldOrWanted (line_of_end end) (status_of_end end) result (E.told report.old) (E.told report.new) }
 {
     match end {
         CallEnd::Done { got } => match of_got(alloc, got) {

@@ -6,8 +6,6 @@ ghost use Rattle.tnc_words.specs.declared.command.RecordOptions.{RecordOptions};
 ghost use Rattle.tnc_words.specs.declared.command.ServeOptions.{ServeOptions};
 ghost use Rattle.tnc_forms.specs.Reading.{input_limit};
 ghost use Rattle.tnc_ports.specs.SampledRun.{outside_by};
-ghost use Rattle.tnc_ports.specs.SampledWrites.{stream_of};
-ghost use Rattle.tnc_ports.specs.ServeRun.{input_by};
 ghost use Rattle.tnc_main.specs.declared.status.Status.{Status};
 ghost use Rattle.tnc_main.specs.Calling.{Calls, words_of as call_words_of};
 ghost use Rattle.tnc_main.specs.RecordRuns.{Records, words_of as record_words_of};
@@ -49,44 +47,38 @@ pub(crate) fn run_live<
     requires can_run { CanRunLive command }
     ensures served { (options : ServeOptions) → command ≡ LiveCommand.Serve options
         → (status : Status) × (result ≡ code_of status)
-        × Serves (words_of options live.old.seed) status (input_by I.left I.faults input.old)
-        (input_by I.left I.faults input.new)
-        (outside_by N.told K.told O.written O.faults E.written E.faults
-        live.old.ports live.old.key output.old report.old)
-        (outside_by N.told K.told O.written O.faults E.written E.faults
-        live.new.ports live.new.key output.new report.new) }
+        × Serves (words_of options live.old.seed) status (I.told input.old) (I.told input.new)
+        (outside_by N.told K.told O.told E.told live.old.ports live.old.key output.old report.old)
+        (outside_by N.told K.told O.told E.told live.new.ports live.new.key output.new report.new) }
 
     ensures recorded { (options : RecordOptions) → command ≡ LiveCommand.Record options
         → (status : Status) × (result ≡ code_of status)
-        × Records (record_words_of options) status (input_by I.left I.faults input.old)
-        (input_by I.left I.faults input.new)
-        (stream_of O.written O.faults output.old) (stream_of O.written O.faults output.new)
-        (stream_of E.written E.faults report.old) (stream_of E.written E.faults report.new) }
+        × Records (record_words_of options) status (I.told input.old) (I.told input.new)
+        (O.told output.old) (O.told output.new) (E.told report.old) (E.told report.new) }
     ensures no_ports { (options : RecordOptions) → command ≡ LiveCommand.Record options
         → live.new.ports ≡ live.old.ports }
     ensures called { (options : CallOptions) → (text before : List ℕ) → command ≡ LiveCommand.Call options
-        → I.left input.old ≡ Some text → O.written output.old ≡ Some before
+        → (I.told input.old).left ≡ Some text → (O.told output.old).written ≡ Some before
         → (status : Status) × (result ≡ code_of status)
-        × Calls (call_words_of options) text before (O.written output.new)
+        × Calls (call_words_of options) text before (O.told output.new).written
         (N.told live.old.ports)
-        (N.told live.new.ports) status
-        (stream_of E.written E.faults report.old) (stream_of E.written E.faults report.new) }
+        (N.told live.new.ports) status (E.told report.old) (E.told report.new) }
 
     // each status and its cause
     ensures known { (status : Status) × (result ≡ code_of status) }
     ensures own { IsLiveCode result }
-    ensures faultless { result ≡ 0 → (I.faults input.new ≡ I.faults input.old)
-        × (O.faults output.new ≡ O.faults output.old) × (E.faults report.new ≡ E.faults report.old) }
-    ensures read_fault { result ≡ 4 → HasRisen (I.faults input.old) (I.faults input.new) }
+    ensures faultless { result ≡ 0 → ((I.told input.new).faults ≡ (I.told input.old).faults)
+        × ((O.told output.new).faults ≡ (O.told output.old).faults)
+        × ((E.told report.new).faults ≡ (E.told report.old).faults) }
+    ensures read_fault { result ≡ 4 → HasRisen (I.told input.old).faults (I.told input.new).faults }
     ensures write_fault { result ≡ 5
-        → HasRisen (O.faults output.old) (O.faults output.new) ⊎ HasRisen (E.faults report.old) (E.faults report.new) }
+        → HasRisen (O.told output.old).faults (O.told output.new).faults
+        ⊎ HasRisen (E.told report.old).faults (E.told report.new).faults }
     ensures want { (options : ServeOptions) → command ≡ LiveCommand.Serve options → result ≡ 3
         → IsServedInWant (words_of options live.old.seed) (W.faults live.old.spawner) (W.faults live.new.spawner)
-        (input_by I.left I.faults input.old) (input_by I.left I.faults input.new)
-        (outside_by N.told K.told O.written O.faults E.written E.faults
-        live.old.ports live.old.key output.old report.old)
-        (outside_by N.told K.told O.written O.faults E.written E.faults
-        live.new.ports live.new.key output.new report.new) }
+        (I.told input.old) (I.told input.new)
+        (outside_by N.told K.told O.told E.told live.old.ports live.old.key output.old report.old)
+        (outside_by N.told K.told O.told E.told live.new.ports live.new.key output.new report.new) }
     ensures no_port { result ≡ 10 → (options : ServeOptions) × (command ≡ LiveCommand.Serve options)
         × HasRisen (N.told live.old.ports).faults (N.told live.new.ports).faults }
     ensures of_call { 11 ≤ result → (options : CallOptions) × (command ≡ LiveCommand.Call options) }
@@ -94,13 +86,15 @@ pub(crate) fn run_live<
 
     // completeness: an input that is not too long, and no fault of the outside
     ensures complete_recorded { (options : RecordOptions) → command ≡ LiveCommand.Record options
-        → (octets : List ℕ) → I.left input.old ≡ Some octets → length octets ≤ input_limit
-        → ¬ HasRisen (I.faults input.old) (I.faults input.new) → ¬ HasRisen (O.faults output.old) (O.faults output.new)
-        → ¬ HasRisen (E.faults report.old) (E.faults report.new) → (result ≡ 0) ⊎ (result ≡ 3) }
+        → (octets : List ℕ) → (I.told input.old).left ≡ Some octets → length octets ≤ input_limit
+        → ¬ HasRisen (I.told input.old).faults (I.told input.new).faults
+        → ¬ HasRisen (O.told output.old).faults (O.told output.new).faults
+        → ¬ HasRisen (E.told report.old).faults (E.told report.new).faults → (result ≡ 0) ⊎ (result ≡ 3) }
     ensures complete_served { (options : ServeOptions) → command ≡ LiveCommand.Serve options
-        → (octets : List ℕ) → I.left input.old ≡ Some octets → length octets ≤ input_limit
-        → ¬ HasRisen (I.faults input.old) (I.faults input.new) → ¬ HasRisen (O.faults output.old) (O.faults output.new)
-        → ¬ HasRisen (E.faults report.old) (E.faults report.new)
+        → (octets : List ℕ) → (I.told input.old).left ≡ Some octets → length octets ≤ input_limit
+        → ¬ HasRisen (I.told input.old).faults (I.told input.new).faults
+        → ¬ HasRisen (O.told output.old).faults (O.told output.new).faults
+        → ¬ HasRisen (E.told report.old).faults (E.told report.new).faults
         → ¬ HasRisen (N.told live.old.ports).faults (N.told live.new.ports).faults → (result ≡ 0) ⊎ (result ≡ 3) }
 {
     match command {

@@ -34,30 +34,31 @@ pub(crate) fn perform<R: Threads + Sync, I: Source, O: Sink>(
     ensures not_live { CanRun command }
 
     // what is read and written
-    ensures end { (octets : List ℕ) → Reads command (I.left input.old) octets
-        → OnOk result (Reads command (I.left input.new) []) }
-    ensures stops { (octets : List ℕ) → Reads command (I.left input.old) octets
+    ensures end { (octets : List ℕ) → Reads command (I.told input.old).left octets
+        → OnOk result (Reads command (I.told input.new).left []) }
+    ensures stops { (octets : List ℕ) → Reads command (I.told input.old).left octets
         → IsErrOf result (Stop.Input InputFault.TooLong)
-        → Reads command (I.left input.new) (drop (input_limit + 1) octets) }
+        → Reads command (I.told input.new).left (drop (input_limit + 1) octets) }
     ensures unread { ReadsNothing command → input.new ≡ input.old }
-    ensures written { (octets before : List ℕ) → Reads command (I.left input.old) octets
-        → O.written output.old ≡ Some before
-        → (text : List ℕ) × Writes command octets (I.left input.new) (status_of result) text
-        × (O.written output.new ≡ Some (before ++ text)) }
+    ensures written { (octets before : List ℕ) → Reads command (I.told input.old).left octets
+        → (O.told output.old).written ≡ Some before
+        → (text : List ℕ) × Writes command octets (I.told input.new).left (status_of result) text
+        × ((O.told output.new).written ≡ Some (before ++ text)) }
     ensures unwritten { WritesAtEnd command → (result ≡ Err (Stop.Input InputFault.TooLong)) ⊎ (result ≡ Err Stop.Read)
         → output.new ≡ output.old }
     ensures heard_as_made { (words : LoopWords) → command ≡ Command.Loop words → OnOk result (HeardAsMade words) }
 
     // each end and its cause
-    ensures good { (octets : List ℕ) → Reads command (I.left input.old) octets
+    ensures good { (octets : List ℕ) → Reads command (I.told input.old).left octets
         → OnOk result (fault_of command octets ≡ None) }
     ensures faultless { OnOk result
-        ((I.faults input.new ≡ I.faults input.old) × (O.faults output.new ≡ O.faults output.old)) }
-    ensures bad { (octets : List ℕ) → (fault : InputFault) → Reads command (I.left input.old) octets
+        (((I.told input.new).faults ≡ (I.told input.old).faults)
+        × ((O.told output.new).faults ≡ (O.told output.old).faults)) }
+    ensures bad { (octets : List ℕ) → (fault : InputFault) → Reads command (I.told input.old).left octets
         → IsErrOf result (Stop.Input fault) → fault_of command octets ≡ Some fault }
     ensures sent { IfErr result (IsStopOfRun command) }
-    ensures read { IsErrOf result Stop.Read → HasRisen (I.faults input.old) (I.faults input.new) }
-    ensures write { IsErrOf result Stop.Write → HasRisen (O.faults output.old) (O.faults output.new) }
+    ensures read { IsErrOf result Stop.Read → HasRisen (I.told input.old).faults (I.told input.new).faults }
+    ensures write { IsErrOf result Stop.Write → HasRisen (O.told output.old).faults (O.told output.new).faults }
 {
     match command {
         Command::Decode(words) => ended(decode(rt, alloc, words, input, output)),

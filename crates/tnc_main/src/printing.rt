@@ -9,12 +9,12 @@ use tnc_base::Sink;
 /// Writes a text to the output.
 pub(crate) fn print_text<O: Sink>(output: &mut O, text: &str) -> Result<(), Stop>
     ensures ends { (result ≡ Ok tt) ⊎ (result ≡ Err Stop.Write) }
-    ensures whole { (before : List ℕ) → O.written output.old ≡ Some before
-        → OnOk result (O.written output.new ≡ Some (before ++ text.now)) }
-    ensures cut { (before : List ℕ) → O.written output.old ≡ Some before
-        → OnErr result (WrotePart before text.now (O.written output.new)) }
-    ensures faultless { OnOk result (O.faults output.new ≡ O.faults output.old) }
-    ensures fault { OnErr result (HasRisen (O.faults output.old) (O.faults output.new)) }
+    ensures whole { (before : List ℕ) → (O.told output.old).written ≡ Some before
+        → OnOk result ((O.told output.new).written ≡ Some (before ++ text.now)) }
+    ensures cut { (before : List ℕ) → (O.told output.old).written ≡ Some before
+        → OnErr result (WrotePart before text.now (O.told output.new).written) }
+    ensures faultless { OnOk result ((O.told output.new).faults ≡ (O.told output.old).faults) }
+    ensures fault { OnErr result (HasRisen (O.told output.old).faults (O.told output.new).faults) }
 {
     match output.write(text.as_bytes()) {
         Ok(()) => Ok(()),

@@ -26,8 +26,6 @@ ghost use Rattle.channel_bench.specs.KeepsOrder.{KeepsOrder};
 ghost use Rattle.channel_bench.specs.Report.{Report};
 ghost use Rattle.tnc_bench.specs.Reported.{report_text, words_of as bench_words};
 ghost use Rattle.tnc_ports.specs.SampledRun.{outside_by};
-ghost use Rattle.tnc_ports.specs.SampledWrites.{stream_of};
-ghost use Rattle.tnc_ports.specs.ServeRun.{input_by};
 ghost use Rattle.tnc_main.specs.declared.status.Status.{Status};
 ghost use Rattle.tnc_main.specs.Calling.{RunsCall};
 ghost use Rattle.tnc_main.specs.RecordRuns.{RunsRecord};
@@ -94,64 +92,56 @@ pub fn run<
     live: &mut Live<N, W, K>,
 ) -> u8
     // what a decode hears, what a bench tells, and what a live station, a recording and a call do
-    ensures heard { (job : Job (map string_bytes words.now) (I.left input.old) result) → (decode : DecodeWords)
+    ensures heard { (job : Job (map string_bytes words.now) (I.told input.old).left result) → (decode : DecodeWords)
         → (received : List Received) → (before : List ℕ) → job.command ≡ Command.Decode decode
         → IsNearlyClean (modem_of decode job.octets) (samples_read decode job.octets) received
-        → O.written output.old ≡ Some before
+        → (O.told output.old).written ≡ Some before
         → result ≡ 0
-        → O.written output.new ≡ Some (before ++ print decode.frames (frames_of (transmissions_of received))) }
-    ensures heard_in_blocks { (job : Job (map string_bytes words.now) (I.left input.old) result)
+        → (O.told output.new).written ≡ Some (before ++ print decode.frames (frames_of (transmissions_of received))) }
+    ensures heard_in_blocks { (job : Job (map string_bytes words.now) (I.told input.old).left result)
         → (decode : DecodeWords) → (units : List SentUnit) → (before : List ℕ)
         → job.command ≡ Command.Decode decode → decode.receiving ≡ Receiving.Fx25
         → CarriesUnits (samples_read decode job.octets) units
-        → O.written output.old ≡ Some before
+        → (O.told output.old).written ≡ Some before
         → result ≡ 0
-        → O.written output.new ≡ Some (before ++ print decode.frames (map (λ unit. unit.octets) units)) }
-    ensures repaired { (job : Job (map string_bytes words.now) (I.left input.old) result)
+        → (O.told output.new).written ≡ Some (before ++ print decode.frames (map (λ unit. unit.octets) units)) }
+    ensures repaired { (job : Job (map string_bytes words.now) (I.told input.old).left result)
         → (decode : DecodeWords) → (received : List ReceivedBlocks) → (before : List ℕ)
         → job.command ≡ Command.Decode decode → decode.receiving ≡ Receiving.Fx25
         → IsNearButForStretches (samples_read decode job.octets) received
-        → O.written output.old ≡ Some before
+        → (O.told output.old).written ≡ Some before
         → result ≡ 0
-        → O.written output.new ≡ Some (before ++ print decode.frames (frames_in_blocks received)) }
+        → (O.told output.new).written ≡ Some (before ++ print decode.frames (frames_in_blocks received)) }
     ensures benched { (bench : BenchOptions) → (before : List ℕ) → IsBench (map string_bytes words.now) bench
-        → O.written output.old ≡ Some before → result ≡ 0
+        → (O.told output.old).written ≡ Some before → result ≡ 0
         → (told : Report) × IsOver (bench_words bench) told × KeepsOrder (bench_words bench) told
-        × (O.written output.new ≡ Some (before ++ report_text told)) }
+        × ((O.told output.new).written ≡ Some (before ++ report_text told)) }
     ensures served { (options : ServeOptions) → IsServe (map string_bytes words.now) options
         → (status : Status) × (result ≡ code_of status)
-        × RunsLive options live.old.seed status (input_by I.left I.faults input.old)
-        (input_by I.left I.faults input.new)
-        (outside_by N.told K.told O.written O.faults E.written E.faults
-        live.old.ports live.old.key output.old report.old)
-        (outside_by N.told K.told O.written O.faults E.written E.faults
-        live.new.ports live.new.key output.new report.new) }
+        × RunsLive options live.old.seed status (I.told input.old) (I.told input.new)
+        (outside_by N.told K.told O.told E.told live.old.ports live.old.key output.old report.old)
+        (outside_by N.told K.told O.told E.told live.new.ports live.new.key output.new report.new) }
 
     ensures keyed { (options : ServeOptions) → (ptt : PttOptions) → (was : List KeyLine) → (out : List ℕ)
         → IsServe (map string_bytes words.now) options → options.ptt ≡ Some ptt
-        → (K.told live.old.key).lines ≡ Some was → is_open was ≡ false → O.written output.old ≡ Some out
+        → (K.told live.old.key).lines ≡ Some was → is_open was ≡ false → (O.told output.old).written ≡ Some out
         → (status : Status) × (result ≡ code_of status)
-        × RunsKeyed options ptt live.old.seed was out status (input_by I.left I.faults input.old)
-        (input_by I.left I.faults input.new)
-        (outside_by N.told K.told O.written O.faults E.written E.faults
-        live.old.ports live.old.key output.old report.old)
-        (outside_by N.told K.told O.written O.faults E.written E.faults
-        live.new.ports live.new.key output.new report.new) }
+        × RunsKeyed options ptt live.old.seed was out status (I.told input.old) (I.told input.new)
+        (outside_by N.told K.told O.told E.told live.old.ports live.old.key output.old report.old)
+        (outside_by N.told K.told O.told E.told live.new.ports live.new.key output.new report.new) }
     ensures unkeyed { (options : ServeOptions) → IsServe (map string_bytes words.now) options → options.ptt ≡ None
         → K.told live.new.key ≡ K.told live.old.key }
 
     ensures recorded { (options : RecordOptions) → IsRecord (map string_bytes words.now) options
         → (status : Status) × (result ≡ code_of status)
-        × RunsRecord options status (input_by I.left I.faults input.old) (input_by I.left I.faults input.new)
-        (stream_of O.written O.faults output.old) (stream_of O.written O.faults output.new)
-        (stream_of E.written E.faults report.old) (stream_of E.written E.faults report.new) }
+        × RunsRecord options status (I.told input.old) (I.told input.new) (O.told output.old) (O.told output.new)
+        (E.told report.old) (E.told report.new) }
     ensures called { (options : CallOptions) → (text before : List ℕ) → IsCall (map string_bytes words.now) options
-        → I.left input.old ≡ Some text → O.written output.old ≡ Some before
+        → (I.told input.old).left ≡ Some text → (O.told output.old).written ≡ Some before
         → (status : Status) × (result ≡ code_of status)
-        × RunsCall options text before (O.written output.new)
+        × RunsCall options text before (O.told output.new).written
         (N.told live.old.ports)
-        (N.told live.new.ports) status
-        (stream_of E.written E.faults report.old) (stream_of E.written E.faults report.new) }
+        (N.told live.new.ports) status (E.told report.old) (E.told report.new) }
 
     // what the words may be: if they ask for nothing, nothing is touched but the report, and no command but a live one
     // has to do with ports or threads that may wait
@@ -162,15 +152,15 @@ pub fn run<
     ensures ports_alone { AskNoPorts (map string_bytes words.now) → live.new.ports ≡ live.old.ports }
 
     // what each command reads and writes
-    ensures read { (job : Job (map string_bytes words.now) (I.left input.old) result)
-        → Leaves job.command job.octets job.status (I.left input.new) }
-    ensures written { (job : Job (map string_bytes words.now) (I.left input.old) result) → (before : List ℕ)
-        → O.written output.old ≡ Some before → (text : List ℕ)
-        × Writes job.command job.octets (I.left input.new) job.status text
-        × (O.written output.new ≡ Some (before ++ text)) }
+    ensures read { (job : Job (map string_bytes words.now) (I.told input.old).left result)
+        → Leaves job.command job.octets job.status (I.told input.new).left }
+    ensures written { (job : Job (map string_bytes words.now) (I.told input.old).left result) → (before : List ℕ)
+        → (O.told output.old).written ≡ Some before → (text : List ℕ)
+        × Writes job.command job.octets (I.told input.new).left job.status text
+        × ((O.told output.new).written ≡ Some (before ++ text)) }
     ensures unwritten { (command : Command) → Asks (map string_bytes words.now) command → WritesAtEnd command
         → result ≡ 4 → output.new ≡ output.old }
-    ensures too_long { (job : Job (map string_bytes words.now) (I.left input.old) result)
+    ensures too_long { (job : Job (map string_bytes words.now) (I.told input.old).left result)
         → WritesAtEnd job.command → input_limit < length job.octets → result ≡ 2 → output.new ≡ output.old }
     ensures unread { (command : Command) → Asks (map string_bytes words.now) command → ReadsNothing command
         → input.new ≡ input.old }
@@ -178,13 +168,15 @@ pub fn run<
 
     // each status and its cause
     ensures known { (status : Status) × (result ≡ code_of status) }
-    ensures cause { (job : Job (map string_bytes words.now) (I.left input.old) result)
+    ensures cause { (job : Job (map string_bytes words.now) (I.told input.old).left result)
         → IsCaused job.command job.octets job.status }
-    ensures faultless { result ≡ 0 → (I.faults input.new ≡ I.faults input.old)
-        × (O.faults output.new ≡ O.faults output.old) × (E.faults report.new ≡ E.faults report.old) }
-    ensures read_fault { result ≡ 4 → HasRisen (I.faults input.old) (I.faults input.new) }
+    ensures faultless { result ≡ 0 → ((I.told input.new).faults ≡ (I.told input.old).faults)
+        × ((O.told output.new).faults ≡ (O.told output.old).faults)
+        × ((E.told report.new).faults ≡ (E.told report.old).faults) }
+    ensures read_fault { result ≡ 4 → HasRisen (I.told input.old).faults (I.told input.new).faults }
     ensures write_fault { result ≡ 5
-        → HasRisen (O.faults output.old) (O.faults output.new) ⊎ HasRisen (E.faults report.old) (E.faults report.new) }
+        → HasRisen (O.told output.old).faults (O.told output.new).faults
+        ⊎ HasRisen (E.told report.old).faults (E.told report.new).faults }
     ensures stray { result ≡ 6 → (command : Command) × Asks (map string_bytes words.now) command
         × ((frame : List ℕ) × Strays command frame) }
     ensures not_quiet { result ≡ 7 → (command : Command) × Asks (map string_bytes words.now) command
@@ -193,11 +185,9 @@ pub fn run<
         × ((ticks : ℕ) × IsSpent command ticks) }
     ensures no_thread { (options : ServeOptions) → IsServe (map string_bytes words.now) options → result ≡ 3
         → IsInWant options live.old.seed (W.faults live.old.spawner) (W.faults live.new.spawner)
-        (input_by I.left I.faults input.old) (input_by I.left I.faults input.new)
-        (outside_by N.told K.told O.written O.faults E.written E.faults
-        live.old.ports live.old.key output.old report.old)
-        (outside_by N.told K.told O.written O.faults E.written E.faults
-        live.new.ports live.new.key output.new report.new) }
+        (I.told input.old) (I.told input.new)
+        (outside_by N.told K.told O.told E.told live.old.ports live.old.key output.old report.old)
+        (outside_by N.told K.told O.told E.told live.new.ports live.new.key output.new report.new) }
     ensures no_port { result ≡ 10 → (options : ServeOptions) × IsServe (map string_bytes words.now) options
         × HasRisen (N.told live.old.ports).faults (N.told live.new.ports).faults }
     ensures of_call { 11 ≤ result → (options : CallOptions) × IsCall (map string_bytes words.now) options }
@@ -206,28 +196,30 @@ pub fn run<
     // what is told; a live command tells more while it runs
     ensures silent { AskNoLive (map string_bytes words.now) → (result ≡ 0) ⊎ ((result ≡ 3) ⊎ (result ≡ 4))
         → report.new ≡ report.old }
-    ensures told { (job : Job (map string_bytes words.now) (I.left input.old) result) → (before : List ℕ)
-        → E.written report.old ≡ Some before → (line : List ℕ) × Tells job.command job.octets job.status line
-        × (E.written report.new ≡ Some (before ++ line)) }
+    ensures told { (job : Job (map string_bytes words.now) (I.told input.old).left result) → (before : List ℕ)
+        → (E.told report.old).written ≡ Some before → (line : List ℕ) × Tells job.command job.octets job.status line
+        × ((E.told report.new).written ≡ Some (before ++ line)) }
     ensures bad_words_told { (before : List ℕ) → AskNothing (map string_bytes words.now)
-        → E.written report.old ≡ Some before
-        → (result ≡ 1 → E.written report.new ≡ Some (before ++ bad_words_line))
-        × (result ≡ 5 → WrotePart before bad_words_line (E.written report.new)) }
+        → (E.told report.old).written ≡ Some before
+        → (result ≡ 1 → (E.told report.new).written ≡ Some (before ++ bad_words_line))
+        × (result ≡ 5 → WrotePart before bad_words_line (E.told report.new).written) }
 
     // completeness: good words, an input without a fault, and no fault of the outside
-    ensures complete { (job : Job (map string_bytes words.now) (I.left input.old) result)
-        → IsFaultless job.command job.octets → ¬ HasRisen (I.faults input.old) (I.faults input.new)
-        → ¬ HasRisen (O.faults output.old) (O.faults output.new)
-        → ¬ HasRisen (E.faults report.old) (E.faults report.new) → (result ≡ 0) ⊎ (result ≡ 3) }
+    ensures complete { (job : Job (map string_bytes words.now) (I.told input.old).left result)
+        → IsFaultless job.command job.octets → ¬ HasRisen (I.told input.old).faults (I.told input.new).faults
+        → ¬ HasRisen (O.told output.old).faults (O.told output.new).faults
+        → ¬ HasRisen (E.told report.old).faults (E.told report.new).faults → (result ≡ 0) ⊎ (result ≡ 3) }
     ensures complete_served { (options : ServeOptions) → IsServe (map string_bytes words.now) options
-        → (octets : List ℕ) → I.left input.old ≡ Some octets → length octets ≤ input_limit
-        → ¬ HasRisen (I.faults input.old) (I.faults input.new) → ¬ HasRisen (O.faults output.old) (O.faults output.new)
-        → ¬ HasRisen (E.faults report.old) (E.faults report.new)
+        → (octets : List ℕ) → (I.told input.old).left ≡ Some octets → length octets ≤ input_limit
+        → ¬ HasRisen (I.told input.old).faults (I.told input.new).faults
+        → ¬ HasRisen (O.told output.old).faults (O.told output.new).faults
+        → ¬ HasRisen (E.told report.old).faults (E.told report.new).faults
         → ¬ HasRisen (N.told live.old.ports).faults (N.told live.new.ports).faults → (result ≡ 0) ⊎ (result ≡ 3) }
     ensures complete_recorded { (options : RecordOptions) → IsRecord (map string_bytes words.now) options
-        → (octets : List ℕ) → I.left input.old ≡ Some octets → length octets ≤ input_limit
-        → ¬ HasRisen (I.faults input.old) (I.faults input.new) → ¬ HasRisen (O.faults output.old) (O.faults output.new)
-        → ¬ HasRisen (E.faults report.old) (E.faults report.new) → (result ≡ 0) ⊎ (result ≡ 3) }
+        → (octets : List ℕ) → (I.told input.old).left ≡ Some octets → length octets ≤ input_limit
+        → ¬ HasRisen (I.told input.old).faults (I.told input.new).faults
+        → ¬ HasRisen (O.told output.old).faults (O.told output.new).faults
+        → ¬ HasRisen (E.told report.old).faults (E.told report.new).faults → (result ≡ 0) ⊎ (result ≡ 3) }
 {
     match run_batch(rt, alloc, words, input, output, report) {
         Ok(status) => status,

@@ -2,8 +2,6 @@
 ghost use Rattle.std.specs.Prelude.{◌≡◌, ◌⊎◌, ◌≤◌, ◌<◌, ℕ, List, Some, length};
 ghost use Rattle.tnc_base.specs.Faults.{HasRisen};
 ghost use Rattle.tnc_forms.specs.Reading.{input_limit};
-ghost use Rattle.tnc_ports.specs.PumpRun.{input_by};
-ghost use Rattle.tnc_ports.specs.SampledWrites.{stream_of};
 ghost use Rattle.tnc_main.specs.declared.status.Status.{Status};
 ghost use Rattle.tnc_main.specs.EndTold.{IsEndTold};
 ghost use Rattle.tnc_main.specs.RecordRuns.{Records, last_line, status_of_end, words_of};
@@ -32,21 +30,23 @@ pub(crate) fn record<Rt: Threads + Wait + Sync, I: Source + Send, O: Sink, E: Si
 ) -> u8
     requires { (1 ≤ words.keep) × (words.keep ≤ 17280000) }
     ensures recorded { (status : Status) × (result ≡ code_of status)
-        × Records words status (input_by I.left I.faults input.old) (input_by I.left I.faults input.new)
-        (stream_of O.written O.faults output.old) (stream_of O.written O.faults output.new)
-        (stream_of E.written E.faults report.old) (stream_of E.written E.faults report.new) }
+        × Records words status (I.told input.old) (I.told input.new) (O.told output.old) (O.told output.new)
+        (E.told report.old) (E.told report.new) }
 
     // each status and its cause
     ensures own { IsLiveCode result }
-    ensures faultless { result ≡ 0 → (I.faults input.new ≡ I.faults input.old)
-        × (O.faults output.new ≡ O.faults output.old) × (E.faults report.new ≡ E.faults report.old) }
-    ensures read_fault { result ≡ 4 → HasRisen (I.faults input.old) (I.faults input.new) }
+    ensures faultless { result ≡ 0 → ((I.told input.new).faults ≡ (I.told input.old).faults)
+        × ((O.told output.new).faults ≡ (O.told output.old).faults)
+        × ((E.told report.new).faults ≡ (E.told report.old).faults) }
+    ensures read_fault { result ≡ 4 → HasRisen (I.told input.old).faults (I.told input.new).faults }
     ensures write_fault { result ≡ 5
-        → HasRisen (O.faults output.old) (O.faults output.new) ⊎ HasRisen (E.faults report.old) (E.faults report.new) }
+        → HasRisen (O.told output.old).faults (O.told output.new).faults
+        ⊎ HasRisen (E.told report.old).faults (E.told report.new).faults }
     ensures no_others { result ≤ 5 }
-    ensures complete { (octets : List ℕ) → I.left input.old ≡ Some octets → length octets ≤ input_limit
-        → ¬ HasRisen (I.faults input.old) (I.faults input.new) → ¬ HasRisen (O.faults output.old) (O.faults output.new)
-        → ¬ HasRisen (E.faults report.old) (E.faults report.new) → (result ≡ 0) ⊎ (result ≡ 3) }
+    ensures complete { (octets : List ℕ) → (I.told input.old).left ≡ Some octets → length octets ≤ input_limit
+        → ¬ HasRisen (I.told input.old).faults (I.told input.new).faults
+        → ¬ HasRisen (O.told output.old).faults (O.told output.new).faults
+        → ¬ HasRisen (E.told report.old).faults (E.told report.new).faults → (result ≡ 0) ⊎ (result ≡ 3) }
 {
     let end = tnc_record::record(rt, alloc, words, input, output, report, spawner);
     tell_end(end, report).code()
@@ -54,8 +54,7 @@ pub(crate) fn record<Rt: Threads + Wait + Sync, I: Source + Send, O: Sink, E: Si
 
 /// The status of an end, with the line that explains it.
 fn tell_end<E: Sink>(end: RecordEnd, report: &mut E) -> Status
-    ensures { IsEndTold (last_line end) (status_of_end end) result (stream_of E.written E.faults report.old)
-        (stream_of E.written E.faults report.new) }
+    ensures { IsEndTold (last_line end) (status_of_end end) result (E.told report.old) (E.told report.new) }
 {
     match end {
         RecordEnd::Done => Status::Done,

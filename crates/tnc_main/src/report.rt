@@ -124,12 +124,12 @@ pub(crate) fn of_long_call(alloc: Global, polls: u32) -> Result<String, OutOfMem
 pub(crate) fn told<E: Sink>(report: &mut E, line: &str, status: Status) -> Status
     requires { status ≢ Status.WriteFault }
     ensures status { (result ≡ status) ⊎ (result ≡ Status.WriteFault) }
-    ensures line { (before : List ℕ) → E.written report.old ≡ Some before
-        → (E.written report.new ≡ Some (before ++ line.now)) ⊎ (result ≡ Status.WriteFault) }
-    ensures cut { (before : List ℕ) → E.written report.old ≡ Some before
-        → result ≡ Status.WriteFault → WrotePart before line.now (E.written report.new) }
-    ensures fault { result ≡ Status.WriteFault → HasRisen (E.faults report.old) (E.faults report.new) }
-    ensures faultless { (E.faults report.new ≡ E.faults report.old) ⊎ (result ≡ Status.WriteFault) }
+    ensures line { (before : List ℕ) → (E.told report.old).written ≡ Some before
+        → ((E.told report.new).written ≡ Some (before ++ line.now)) ⊎ (result ≡ Status.WriteFault) }
+    ensures cut { (before : List ℕ) → (E.told report.old).written ≡ Some before
+        → result ≡ Status.WriteFault → WrotePart before line.now (E.told report.new).written }
+    ensures fault { result ≡ Status.WriteFault → HasRisen (E.told report.old).faults (E.told report.new).faults }
+    ensures faultless { ((E.told report.new).faults ≡ (E.told report.old).faults) ⊎ (result ≡ Status.WriteFault) }
 {
     match report.write(line.as_bytes()) {
         Ok(()) => status,

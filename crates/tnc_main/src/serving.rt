@@ -4,7 +4,6 @@ ghost use Rattle.tnc_base.specs.Faults.{HasRisen};
 ghost use Rattle.link_machine.specs.Params.{IsRefusedWindow};
 ghost use Rattle.tnc_forms.specs.Reading.{input_limit};
 ghost use Rattle.tnc_ports.specs.SampledRun.{Outside, outside_by};
-ghost use Rattle.tnc_ports.specs.ServeRun.{input_by};
 ghost use Rattle.tnc_main.specs.declared.status.Status.{Status};
 ghost use Rattle.live_receiver.specs.Listening.{CanBeAskedBy};
 ghost use Rattle.tnc_main.specs.Serving.{IsServedInWant, IsToldAs, Serves, detection_of, last_line, status_of_end};
@@ -52,30 +51,29 @@ pub(crate) fn serve<
     requires window { (window : ℕ) → ¬ IsRefusedWindow words.config.params window }
     requires dcd { CanBeAskedBy words.listening words.dcd }
     ensures served { (status : Status) × (result ≡ code_of status)
-        × Serves words status (input_by I.left I.faults input.old) (input_by I.left I.faults input.new)
-        (outside_by N.told K.told O.written O.faults E.written E.faults
-        live.old.ports live.old.key output.old report.old)
-        (outside_by N.told K.told O.written O.faults E.written E.faults
-        live.new.ports live.new.key output.new report.new) }
+        × Serves words status (I.told input.old) (I.told input.new)
+        (outside_by N.told K.told O.told E.told live.old.ports live.old.key output.old report.old)
+        (outside_by N.told K.told O.told E.told live.new.ports live.new.key output.new report.new) }
 
     // each status and its cause
     ensures own { IsLiveCode result }
-    ensures faultless { result ≡ 0 → (I.faults input.new ≡ I.faults input.old)
-        × (O.faults output.new ≡ O.faults output.old) × (E.faults report.new ≡ E.faults report.old) }
-    ensures read_fault { result ≡ 4 → HasRisen (I.faults input.old) (I.faults input.new) }
+    ensures faultless { result ≡ 0 → ((I.told input.new).faults ≡ (I.told input.old).faults)
+        × ((O.told output.new).faults ≡ (O.told output.old).faults)
+        × ((E.told report.new).faults ≡ (E.told report.old).faults) }
+    ensures read_fault { result ≡ 4 → HasRisen (I.told input.old).faults (I.told input.new).faults }
     ensures write_fault { result ≡ 5
-        → HasRisen (O.faults output.old) (O.faults output.new) ⊎ HasRisen (E.faults report.old) (E.faults report.new) }
+        → HasRisen (O.told output.old).faults (O.told output.new).faults
+        ⊎ HasRisen (E.told report.old).faults (E.told report.new).faults }
     ensures want { result ≡ 3 → IsServedInWant words (W.faults live.old.spawner) (W.faults live.new.spawner)
-        (input_by I.left I.faults input.old) (input_by I.left I.faults input.new)
-        (outside_by N.told K.told O.written O.faults E.written E.faults
-        live.old.ports live.old.key output.old report.old)
-        (outside_by N.told K.told O.written O.faults E.written E.faults
-        live.new.ports live.new.key output.new report.new) }
+        (I.told input.old) (I.told input.new)
+        (outside_by N.told K.told O.told E.told live.old.ports live.old.key output.old report.old)
+        (outside_by N.told K.told O.told E.told live.new.ports live.new.key output.new report.new) }
     ensures no_port { result ≡ 10 → HasRisen (N.told live.old.ports).faults (N.told live.new.ports).faults }
     ensures not_called { result ≤ 10 }
-    ensures complete { (octets : List ℕ) → I.left input.old ≡ Some octets → length octets ≤ input_limit
-        → ¬ HasRisen (I.faults input.old) (I.faults input.new) → ¬ HasRisen (O.faults output.old) (O.faults output.new)
-        → ¬ HasRisen (E.faults report.old) (E.faults report.new)
+    ensures complete { (octets : List ℕ) → (I.told input.old).left ≡ Some octets → length octets ≤ input_limit
+        → ¬ HasRisen (I.told input.old).faults (I.told input.new).faults
+        → ¬ HasRisen (O.told output.old).faults (O.told output.new).faults
+        → ¬ HasRisen (E.told report.old).faults (E.told report.new).faults
         → ¬ HasRisen (N.told live.old.ports).faults (N.told live.new.ports).faults → (result ≡ 0) ⊎ (result ≡ 3) }
 {
     let end = tnc_ports::serve(rt, alloc, words, input, output, report, live);
@@ -84,9 +82,9 @@ pub(crate) fn serve<
 
 /// The status of an end, with the line that explains it.
 fn tell_end<E: Sink>(end: ServeEnd, report: &mut E) -> Status
-    ensures { (between : Outside) → between.report ≡ E.written report.old → between.report_faults ≡ E.faults report.old
+    ensures { (between : Outside) → between.report ≡ E.told report.old
         → IsToldAs (last_line end) (status_of_end end) result between
-        (record between { report = E.written report.new; report_faults = E.faults report.new }) }
+        (record between { report = E.told report.new }) }
 {
     match end {
         ServeEnd::Done => Status::Done,

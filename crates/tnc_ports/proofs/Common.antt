@@ -40,7 +40,7 @@ pub use Rattle.std.specs.Prelude.{All, Bool, Contains, Err, IsTrue, List, None, 
 pub use Rattle.std.specs.Prelude.{cond, false, filter, if◌then◌else◌, is_err, not, replicate, suc, true, zero, ℤ}
 pub use Rattle.std.specs.Prelude.{◌==◌, ◌||◌, ◌↔◌, ◌∷◌, ◌≢◌, ◌⊎◌}
 pub use Rattle.tnc_base.specs.Faults.{HasRisen}
-pub use Rattle.tnc_base.specs.Streams.{Gives, WrotePart}
+pub use Rattle.tnc_base.specs.Streams.{Gives, WrotePart, SinkTold}
 pub use Rattle.host_ports.specs.AskedPorts.{AreUnasked, IsAsked, poll_of, send_of, taken_of}
 pub use Rattle.host_ports.specs.CutPart.{IsCutInSending}
 pub use Rattle.host_ports.specs.HeldHosts.{StandsFor}
@@ -66,7 +66,7 @@ pub use Rattle.tnc_ports.specs.SampledHeld.{From, KeyedSince, RunsOut, StandsFor
 pub use Rattle.tnc_ports.specs.SampledHeld.{from_of}
 pub use Rattle.tnc_ports.specs.SampledRun.{AllIsWritten, AreTurns, IsCutInReading, IsCutInServing, IsCutRun, IsCutTurn}
 pub use Rattle.tnc_ports.specs.SampledRun.{IsLooped, IsRun, Outside, PortsTell}
-pub use Rattle.tnc_ports.specs.SampledWrites.{Puts, ReportsMore, Stream, WritesMore, stream_of}
+pub use Rattle.tnc_ports.specs.SampledWrites.{Puts, ReportsMore, WritesMore}
 pub use Rattle.host_ports.specs.SentSoFar.{IsOrderly, octets_for}
 pub use Rattle.tnc_ports.specs.ServedHosts.{IsShutHavingCome, NoneTwice, closed_by, ids_closed, octets_to}
 pub use Rattle.host_ports.specs.Sockets.{MayCome, Poll, PortsTold, has_come, is_joining_of}

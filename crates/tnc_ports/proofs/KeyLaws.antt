@@ -17,7 +17,7 @@ use Rattle.tnc_ports.specs.SampledRun.{KeyIsReleased, KeyTold}
 
 pub ends_by : (asked : Option KeyWords) (key : KeyWords) (live : Live) (before after : Outside) (was : List KeyLine)
     (out : List ℕ) → asked ≡ Some key → KeyTold asked live before after → before.line.lines ≡ Some was
-    → before.output ≡ Some out → is_open was ≡ false → EndsReleased after
+    → before.output.written ≡ Some out → is_open was ≡ false → EndsReleased after
 ends_by asked key live before after was out is told lines output closed =
     let r : KeyIsReleased key live before after = subst (λ (k : Option KeyWords). KeyTold k live before after) is told in
     record {
@@ -28,7 +28,7 @@ ends_by asked key live before after was out is told lines output closed =
 
 pub ends_released : (words : ServeWords) (key : KeyWords) (end : LoopEnd) (answers : List (List Got))
     (before after : Outside) (was : List KeyLine) (out : List ℕ) → words.key ≡ Some key
-    → IsLooped words end answers before after → before.line.lines ≡ Some was → before.output ≡ Some out
+    → IsLooped words end answers before after → before.line.lines ≡ Some was → before.output.written ≡ Some out
     → is_open was ≡ false → EndsReleased after
 ends_released words key Done answers before after was out is h = ends_by words.key key h.0 before after was out is h.3
 ends_released words key WriteFault answers before after was out is h =
@@ -69,7 +69,7 @@ kept_so key was out after events told obeys closed = (
 -- What it did until its release is a first part of that.
 pub kept_by : (asked : Option KeyWords) (key : KeyWords) (live : Live) (before after : Outside) (was : List KeyLine)
     (out : List ℕ) → asked ≡ Some key → KeyTold asked live before after → before.line.lines ≡ Some was
-    → before.output ≡ Some out → is_open was ≡ false
+    → before.output.written ≡ Some out → is_open was ≡ false
     → (kept : IsKeptWithin key was out after) × GoesOnFrom kept.events live.keyed
 kept_by asked key live before after was out is told lines output closed =
     let r : KeyIsReleased key live before after = subst (λ (k : Option KeyWords). KeyTold k live before after) is told in
@@ -91,7 +91,7 @@ released_still key was after lines closed = record {
 
 pub kept_within : (words : ServeWords) (key : KeyWords) (end : LoopEnd) (answers : List (List Got))
     (before after : Outside) (was : List KeyLine) (out : List ℕ) → words.key ≡ Some key
-    → IsLooped words end answers before after → before.line.lines ≡ Some was → before.output ≡ Some out
+    → IsLooped words end answers before after → before.line.lines ≡ Some was → before.output.written ≡ Some out
     → is_open was ≡ false → IsKeptWithin key was out after
 kept_within words key Done answers before after was out is h lines output closed =
     (kept_by words.key key h.0 before after was out is h.3 lines output closed).0

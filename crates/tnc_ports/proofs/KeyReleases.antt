@@ -11,10 +11,9 @@ use Rattle.key_port.specs.KeyLines.{KeyLine, LineTold}
 use Rattle.key_port.specs.KeyTasks.{LineGoes}
 use Rattle.tnc_ports.specs.declared.looping.LoopEnd.{LoopEnd}
 use Rattle.tnc_ports.specs.declared.looping.LoopEnd.TheVariants.{Done, Memory, WriteFault}
-use Rattle.tnc_ports.proofs.Common.{KeyWords, ServeWords, Live, From, KeyedSince, RunsOut, Stream, Turning, Asked}
+use Rattle.tnc_ports.proofs.Common.{KeyWords, ServeWords, Live, From, KeyedSince, RunsOut, SinkTold, Turning, Asked}
 use Rattle.tnc_ports.proofs.Common.{Outside, PortsTell, AllIsWritten, IsLooped, from_of, octets_sent}
-use Rattle.tnc_ports.specs.SampledHeld.{KeyStands, LineStands, IsWrittenSince, ReleasesKey, IsReleasedSince, output_of}
-use Rattle.tnc_ports.specs.SampledHeld.{report_of}
+use Rattle.tnc_ports.specs.SampledHeld.{KeyStands, LineStands, IsWrittenSince, ReleasesKey, IsReleasedSince}
 use Rattle.tnc_ports.specs.ReportText.{report_text}
 use Rattle.tnc_ports.specs.SampledRun.{PortsStay, PartIsWritten, IsWhole, IsCut, AllIsWrittenAsTold, KeyTold}
 use Rattle.tnc_ports.specs.SampledRun.{WroteWhole}
@@ -35,7 +34,7 @@ released_at words a b before after same h = record {
 }
 
 pub released_by : (from : From) (key : Option KeyWords) (side side' : Option KeySide) (failed : Bool) (live : Live)
-    (o r : Stream) (line line' : LineTold)
+    (o r : SinkTold) (line line' : LineTold)
     → KeyStands key side live.keyed → IsWrittenSince from key failed live o r → LineStands from key live line
     → ReleasesKey key (had_of from.output o.written (octets_sent live)) o.written live.keyed side' line line'
     → IsReleasedSince from key live line'
@@ -132,7 +131,7 @@ module _ (start y : Outside) (line : LineTold) where
   list_in other (Some list) = list
 
   wrote : (key : Option KeyWords) (failed : Bool) (live : Live)
-      → IsWrittenSince (from_of start) key failed live (output_of y) (report_of y) → WroteWhole live start z
+      → IsWrittenSince (from_of start) key failed live y.output y.report → WroteWhole live start z
   unfolding list_in
   wrote key failed live h = record {
     output = λ was now e n.
@@ -147,7 +146,7 @@ module _ (start y : Outside) (line : LineTold) where
   }
 
   pub key_told : (key : Option KeyWords) (failed : Bool) (live : Live)
-      → IsWrittenSince (from_of start) key failed live (output_of y) (report_of y)
+      → IsWrittenSince (from_of start) key failed live y.output y.report
       → IsReleasedSince (from_of start) key live line → KeyTold key live start z
   key_told None failed live written r = r
   key_told (Some key) failed live written r = record {
@@ -161,10 +160,10 @@ module _ (start y : Outside) (line : LineTold) where
   }
 
   module _ (words : ServeWords) (turning : Turning)
-      (release : (live : Live) → KeyedSince (from_of start) turning live (output_of y) (report_of y) y.line
+      (release : (live : Live) → KeyedSince (from_of start) turning live y.output y.report y.line
       → IsReleasedSince (from_of start) turning.words.key live line) where
     told_of : (live : Live) → turning.words ≡ words
-        → KeyedSince (from_of start) turning live (output_of y) (report_of y) y.line → KeyTold words.key live start z
+        → KeyedSince (from_of start) turning live y.output y.report y.line → KeyTold words.key live start z
     told_of live same key =
         subst (λ (w : ServeWords). KeyTold w.key live start z) same
         (key_told turning.words.key turning.failed live key.written (release live key))

@@ -3,7 +3,7 @@ use Rattle.std.proofs.Common.{◌≡◌, ℕ, List, [], ◌++◌, refl, sym, ap,
 use Rattle.std.proofs.lemmas.List.{append-nil}
 use Rattle.std.specs.Prelude.{true, false, ℤ, Option, Some, None}
 use Rattle.sound_rate.specs.Rates.{written_at}
-use Rattle.tnc_base.specs.Streams.{WrotePart}
+use Rattle.tnc_base.specs.Streams.{WrotePart, SinkTold, SourceTold}
 use Rattle.key_port.specs.KeyLines.{KeyLine, LineTold, is_open}
 use Rattle.tnc_ports.proofs.Common.{AllIsWritten, Got, IsLooped, IsRun, KeyWords, Live, Outside, ServeWords, new_live}
 use Rattle.tnc_ports.proofs.Common.{output_octets}
@@ -17,14 +17,14 @@ use Rattle.tnc_ports.specs.KeyRuns.{IsKeyedRun, events_at}
 use Rattle.tnc_ports.specs.RunTicks.{RunTick, samples_of, ticks_looped, ticks_of_cut_run, ticks_of_run, ticks_served}
 use Rattle.tnc_ports.specs.RunTicks.{with_turns}
 use Rattle.tnc_ports.specs.SampledRun.{IsCutRun, KeyTold}
-use Rattle.tnc_ports.specs.ServeRun.{HasServed, InputSide, IsServed, OnlyListens}
+use Rattle.tnc_ports.specs.ServeRun.{HasServed, IsServed, OnlyListens}
 use Rattle.tnc_ports.proofs.KeyLaws.{ends_by, kept_by, kept_still, released_still}
 use Rattle.tnc_ports.proofs.KeyRuns.{Follows, all_turned, begins_so, cut_short, each_tick, goes_on_longer, turned}
 
 -- ---- the output
 
-all_part : (live : Live) (before after : Outside) (out : List ℕ) → before.output ≡ Some out
-    → AllIsWritten live before after → WrotePart out (output_octets live.sent) after.output
+all_part : (live : Live) (before after : Outside) (out : List ℕ) → before.output.written ≡ Some out
+    → AllIsWritten live before after → WrotePart out (output_octets live.sent) after.output.written
 all_part live before after out was h =
     (output_octets live.sent, [], sym (append-nil (output_octets live.sent)), h.output out was)
 
@@ -52,12 +52,12 @@ module _ (words : ServeWords) (key : KeyWords) (is : words.key ≡ Some key) (wa
   -- what is told of the run after it
   keyed_run : (live : Live) (ticks : List (RunTick words)) (before after : Outside) → So live ticks
       → live.sent ≡ written_at words.rate live.samples
-      → KeyTold words.key live before after → before.line.lines ≡ Some was → before.output ≡ Some out
-      → WrotePart out (output_octets live.sent) after.output → IsKeyedRun words key was out after ticks
+      → KeyTold words.key live before after → before.line.lines ≡ Some was → before.output.written ≡ Some out
+      → WrotePart out (output_octets live.sent) after.output.written → IsKeyedRun words key was out after ticks
   keyed_run live ticks before after so at_rate told lines output written =
       let kept = kept_by words.key key live before after was out is told lines output closed in
       record {
-        written = subst (λ (xs : List ℤ). WrotePart out (output_octets xs) after.output)
+        written = subst (λ (xs : List ℤ). WrotePart out (output_octets xs) after.output.written)
             (at_rate ∙ ap (written_at words.rate) so.samples) written;
         sounds = so.sounds;
         begins = so.begins;
@@ -71,7 +71,7 @@ module _ (words : ServeWords) (key : KeyWords) (is : words.key ≡ Some key) (wa
   -- ---- by how it ends
 
   looped : (end : LoopEnd) (answers : List (List Got)) (before after : Outside)
-      → (h : IsLooped words end answers before after) → before.line.lines ≡ Some was → before.output ≡ Some out
+      → (h : IsLooped words end answers before after) → before.line.lines ≡ Some was → before.output.written ≡ Some out
       → IsKeyedRun words key was out after (ticks_looped words end answers before after h)
   looped LoopDone answers before after h lines output =
       keyed_run h.0 (ticks_of_run words h.0 h.1.run) before after (run_so h.0 h.1.run)
@@ -87,15 +87,17 @@ module _ (words : ServeWords) (key : KeyWords) (is : words.key ≡ Some key) (wa
         | inr part ↦ part.output out output
       ])
 
-  served : (end : ServeEnd) (input left : InputSide) (before after : Outside)
-      → (h : HasServed words end input left before after) → before.line.lines ≡ Some was → before.output ≡ Some out
+  served : (end : ServeEnd) (input left : SourceTold) (before after : Outside)
+      → (h : HasServed words end input left before after) → before.line.lines ≡ Some was
+      → before.output.written ≡ Some out
       → IsKeyedRun words key was out after (ticks_looped words h.loop h.lanes h.open_ports after h.looped)
   served end input left before after h lines output =
       looped h.loop h.lanes h.open_ports after h.looped
-      (ap (λ (line : LineTold). line.lines) h.opens.only.line ∙ lines) (h.opens.only.output ∙ output)
+      (ap (λ (line : LineTold). line.lines) h.opens.only.line ∙ lines)
+      (ap (λ (o : SinkTold). o.written) h.opens.only.output ∙ output)
 
   -- nothing is done
-  pub still : (after : Outside) → after.line.lines ≡ Some was → after.output ≡ Some out
+  pub still : (after : Outside) → after.line.lines ≡ Some was → after.output.written ≡ Some out
       → IsKeyedRun words key was out after []
   still after lines output = record {
     written = ([], output_octets (written_at words.rate []), refl, output ∙ ap Some (sym (append-nil out)));
@@ -107,12 +109,14 @@ module _ (words : ServeWords) (key : KeyWords) (is : words.key ≡ Some key) (wa
   }
 
   listening : (before after : Outside) → OnlyListens before after → before.line.lines ≡ Some was
-      → before.output ≡ Some out → IsKeyedRun words key was out after []
+      → before.output.written ≡ Some out → IsKeyedRun words key was out after []
   listening before after only lines output =
-      still after (ap (λ (line : LineTold). line.lines) only.line ∙ lines) (only.output ∙ output)
+      still after (ap (λ (line : LineTold). line.lines) only.line ∙ lines)
+      (ap (λ (o : SinkTold). o.written) only.output ∙ output)
 
-  pub keyed_served : (end : ServeEnd) (input left : InputSide) (before after : Outside)
-      → (h : IsServed words end input left before after) → before.line.lines ≡ Some was → before.output ≡ Some out
+  pub keyed_served : (end : ServeEnd) (input left : SourceTold) (before after : Outside)
+      → (h : IsServed words end input left before after) → before.line.lines ≡ Some was
+      → before.output.written ≡ Some out
       → IsKeyedRun words key was out after (ticks_served words end input left before after h)
   keyed_served Done input left before after h lines output = served Done input left before after h lines output
   keyed_served TooLong input left before after h lines output = served TooLong input left before after h lines output
@@ -140,12 +144,12 @@ looped_untouched words LoopDone answers before after none h = untouched_by words
 looped_untouched words LoopFault answers before after none h = untouched_by words.key h.0 before after none h.3
 looped_untouched words LoopMemory answers before after none h = untouched_by words.key h.0 before after none h.3
 
-served_untouched : (words : ServeWords) (end : ServeEnd) (input left : InputSide) (before after : Outside)
+served_untouched : (words : ServeWords) (end : ServeEnd) (input left : SourceTold) (before after : Outside)
     → words.key ≡ None → HasServed words end input left before after → after.line ≡ before.line
 served_untouched words end input left before after none h =
     looped_untouched words h.loop h.lanes h.open_ports after none h.looped ∙ h.opens.only.line
 
-pub line_untouched : (words : ServeWords) (end : ServeEnd) (input left : InputSide) (before after : Outside)
+pub line_untouched : (words : ServeWords) (end : ServeEnd) (input left : SourceTold) (before after : Outside)
     → words.key ≡ None → IsServed words end input left before after → after.line ≡ before.line
 line_untouched words Done input left before after none h =
     served_untouched words Done input left before after none h
@@ -168,7 +172,8 @@ pub keyed_as : (words : ServeWords) (key : KeyWords) (was : List KeyLine) (out :
     (ticks : List (RunTick words)) → after.line.lines ≡ between.line.lines → after.output ≡ between.output
     → IsKeyedRun words key was out between ticks → IsKeyedRun words key was out after ticks
 keyed_as words key was out between after ticks lines output h = record {
-  written = subst (λ (o : Option (List ℕ)). WrotePart out (output_octets (written_at words.rate (samples_of words ticks))) o)
+  written = subst (λ (o : SinkTold). WrotePart out (output_octets (written_at words.rate
+      (samples_of words ticks))) o.written)
       (sym output) h.written;
   sounds = h.sounds;
   begins = h.begins;

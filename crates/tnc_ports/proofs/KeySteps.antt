@@ -17,7 +17,7 @@ use Rattle.key_port.specs.KeyFaults.{has_failed}
 use Rattle.key_port.specs.KeySides.{port_of, HasDone, DoesCall}
 use Rattle.key_port.specs.KeyLines.{LineTold}
 use Rattle.key_port.specs.KeyTasks.{LineGoes, HasOctets, CountsIf}
-use Rattle.tnc_ports.proofs.Common.{KeyWords, Hosts, Live, From, KeyedSince, Keeps, StandsFor, Stream, Puts, Turning}
+use Rattle.tnc_ports.proofs.Common.{KeyWords, Hosts, Live, From, KeyedSince, Keeps, StandsFor, SinkTold, Puts, Turning}
 use Rattle.tnc_ports.proofs.Common.{ReportLine, ServeWords}
 use Rattle.tnc_ports.proofs.Common.{TurnsTheKey, TurnsKeyIf, key_line, octets_sent, report_text, with_lines}
 use Rattle.tnc_ports.specs.SampledHeld.{KeyStands, LineStands, IsOutputSince, IsReportSince, IsWrittenSince}
@@ -36,10 +36,10 @@ had_of None written sent = sent
 had_of (Some start) None sent = sent
 had_of (Some start) (Some out) sent = length out - start
 
-abbrev pub Outputs : From → Option KeyWords → Bool → Live → Stream → Type 0
+abbrev pub Outputs : From → Option KeyWords → Bool → Live → SinkTold → Type 0
 Outputs from key failed live output = (start : ℕ) → from.output ≡ Some start → IsOutputSince start key failed live output
 
-pub has_told : (from : From) (key : Option KeyWords) (failed : Bool) (live : Live) (output : Stream) (sent start : ℕ)
+pub has_told : (from : From) (key : Option KeyWords) (failed : Bool) (live : Live) (output : SinkTold) (sent start : ℕ)
     → Outputs from key failed live output → from.output ≡ Some start
     → HasOctets output.written (start + had_of from.output output.written sent)
 unfolding had_of
@@ -51,7 +51,7 @@ has_told from key failed live output sent start told e =
     record { out = i.out; is = i.is; size = let l = i.longer in omega (arith, same, l) }
 
 -- as long as no write failed, that is all
-pub had_all : (from : From) (key : KeyWords) (failed : Bool) (live : Live) (output : Stream)
+pub had_all : (from : From) (key : KeyWords) (failed : Bool) (live : Live) (output : SinkTold)
     → Outputs from (Some key) failed live output
     → key_failed (Some key) live ≡ false → had_of from.output output.written (octets_sent live) ≡ octets_sent live
 unfolding had_of
@@ -125,7 +125,7 @@ LineHas from key events line =
     → line.lines ≡ option_map (λ lines. lines_of key.port start lines events) from.line.lines)
     × CountsIf (has_failed events) from.line.faults line.faults
 
-pub line_called : (from : From) (key : KeyWords) (had : ℕ) (output : Stream) (call : Call) (keyed : List KeyEvent)
+pub line_called : (from : From) (key : KeyWords) (had : ℕ) (output : SinkTold) (call : Call) (keyed : List KeyEvent)
     (reported : List Report) (side : KeySide) (line line' : LineTold)
     → ((start : ℕ) → from.output ≡ Some start → HasOctets output.written (start + had))
     → (d : DoesCall key.words had output.written call keyed reported side line line') → port_of side ≡ key.port
@@ -141,17 +141,17 @@ line_called from key had output call keyed reported side line line' told d port 
 -- ---- what is written
 
 -- a write never takes back what was there; if it did not fail, all of it is there
-pub record Grows (octets : ℕ) (failed : Bool) (out : List ℕ) (after : Stream) : Type 0 where
+pub record Grows (octets : ℕ) (failed : Bool) (out : List ℕ) (after : SinkTold) : Type 0 where
   pub now : List ℕ
   pub is : after.written ≡ Some now
   pub longer : length out ≤ length now
   pub all : failed ≡ false → length now ≡ length out + octets
 
-pub put_grows : (f f' : Bool) (octets out : List ℕ) (x y : Stream) → Puts f f' octets x y → x.written ≡ Some out
+pub put_grows : (f f' : Bool) (octets out : List ℕ) (x y : SinkTold) → Puts f f' octets x y → x.written ≡ Some out
     → Grows (length octets) f' out y
 put_grows true f' octets out x y h e = record {
   now = out;
-  is = ap (λ (s : Stream). s.written) h.1 ∙ e;
+  is = ap (λ (s : SinkTold). s.written) h.1 ∙ e;
   longer = omega arith;
   all = λ none. absurd (true≢false (sym h.0 ∙ none));
 }
@@ -190,12 +190,12 @@ text_longer report lines =
     ∙ length-append (report_text report) (report_text lines)
 
 -- a write after one that failed is one that failed
-pub put_failed : (f f' : Bool) (octets : List ℕ) (x y : Stream) → Puts f f' octets x y → f' ≡ false → f ≡ false
+pub put_failed : (f f' : Bool) (octets : List ℕ) (x y : SinkTold) → Puts f f' octets x y → f' ≡ false → f ≡ false
 put_failed false f' octets x y h none = refl
 put_failed true f' octets x y h none = absurd (true≢false (sym h.0 ∙ none))
 
 -- more lines of the report
-pub report_since : (start : ℕ) (f f' : Bool) (live next : Live) (lines : List ReportLine) (r r' : Stream)
+pub report_since : (start : ℕ) (f f' : Bool) (live next : Live) (lines : List ReportLine) (r r' : SinkTold)
     → live.whole.lines ≤ length live.hosts.report → next.whole ≡ live.whole
     → next.hosts.report ≡ live.hosts.report ++ lines → Puts f f' (report_text lines) r r'
     → IsReportSince start f live r → IsReportSince start f' next r'
@@ -217,7 +217,7 @@ report_since start f f' live next lines r r' within whole more put i =
     }
 
 -- a part of a turn that writes to the report alone, and in which the key does nothing
-pub written_since : (from : From) (key : Option KeyWords) (f f' : Bool) (live next : Live) (o r r' : Stream)
+pub written_since : (from : From) (key : Option KeyWords) (f f' : Bool) (live next : Live) (o r r' : SinkTold)
     → next.sent ≡ live.sent → next.whole ≡ live.whole → next.keyed ≡ live.keyed
     → ReportsMore f f' live.hosts next.hosts r r' → IsWrittenSince from key f live o r
     → IsWrittenSince from key f' next o r'
@@ -251,7 +251,7 @@ IsTurning side side' written now reported line line' =
     → (came : List ℕ) × (end : Option End)
     × DoesCall words octets written (Turn now came end) keyed reported side' line line'
 
-module _ (from : From) (before after : Turning) (live : Live) (o r r' : Stream) (line line' : LineTold)
+module _ (from : From) (before after : Turning) (live : Live) (o r r' : SinkTold) (line line' : LineTold)
     (side side' : KeySide) (now : ℕ) (reported : List Report) where
   turned_by : (key : Option KeyWords) → before.words.key ≡ key → before.key ≡ Some side → after.key ≡ Some side'
       → after.words ≡ before.words → after.hosts ≡ before.hosts → Keeps before.hosts live.hosts
@@ -336,7 +336,7 @@ module _ (from : From) (before after : Turning) (live : Live) (o r r' : Stream) 
       key.line_stands turn port put
 
 -- there is no key
-pub turned_none : (from : From) (before : Turning) (live : Live) (o r : Stream) (line : LineTold)
+pub turned_none : (from : From) (before : Turning) (live : Live) (o r : SinkTold) (line : LineTold)
     → before.key ≡ None → Keeps before.hosts live.hosts → KeyedSince from before live o r line
     → TurnsTheKey from before before live o r r line
 turned_none from before live o r line none keeps key = record {

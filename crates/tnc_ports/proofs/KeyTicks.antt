@@ -13,7 +13,7 @@ use Rattle.key_port.specs.KeyEvents.{KeyEvent, marks_of}
 use Rattle.key_port.specs.KeyEvents.KeyEvent.{Called}
 use Rattle.key_port.specs.KeySides.{port_of, DoesCall}
 use Rattle.key_port.specs.KeyLines.{LineTold}
-use Rattle.tnc_ports.proofs.Common.{KeyWords, Hosts, Live, From, Stream, Puts, ReportLine}
+use Rattle.tnc_ports.proofs.Common.{KeyWords, Hosts, Live, From, SinkTold, Puts, ReportLine}
 use Rattle.tnc_ports.proofs.Common.{TicksKeyIf, Whole, key_line, octets_sent, output_octets, report_text, with_lines}
 use Rattle.tnc_ports.specs.KeyTurns.{told_whole}
 use Rattle.tnc_ports.specs.SampledHeld.{KeyStands, LineStands, IsOutputSince, IsReportSince, IsWrittenSince, DoesForKey}
@@ -74,7 +74,7 @@ module _ (key : Option KeyWords) (fault : Bool) (live next : Live) (outs : List 
       let more = sent_more live next outs sent in
       subst (λ (x : Whole). start + x.octets ≤ length now) (sym (told_all e)) (omega (arith, all, more))
 
-  pub output_since : (start : ℕ) (f f1 f4 : Bool) (o o' : Stream) → Puts f f1 (output_octets outs) o o'
+  pub output_since : (start : ℕ) (f f1 f4 : Bool) (o o' : SinkTold) → Puts f f1 (output_octets outs) o o'
       → (f4 ≡ false → f1 ≡ false) → (fault ≡ false → f1 ≡ false)
       → ((words : KeyWords) → key ≡ Some words → key_failed (Some words) next ≡ false
       → (fault ≡ false) × (key_failed (Some words) live ≡ false))
@@ -124,7 +124,7 @@ module _ (key : Option KeyWords) (fault : Bool) (live next : Live) (outs : List 
         (sym (take_all (length (live.hosts.report ++ first)) (live.hosts.report ++ first) (omega arith)))
         (omega (arith, all))) later)))
 
-    pub tick_report_since : (start : ℕ) (f f1 f3 f4 : Bool) (r r2 r3 : Stream) → (f1 ≡ false → f ≡ false)
+    pub tick_report_since : (start : ℕ) (f f1 f3 f4 : Bool) (r r2 r3 : SinkTold) → (f1 ≡ false → f ≡ false)
         → Puts f1 f3 (report_text first) r r2 → Puts f3 f4 (report_text last) r2 r3 → (fault ≡ false → f3 ≡ false)
         → live.whole.lines ≤ length live.hosts.report
         → IsReportSince start f live r → IsReportSince start f4 next r3
@@ -189,7 +189,7 @@ abbrev pub Rests : Option KeySide → Option KeySide → List Report → LineTol
 Rests side side' reported line line' = side ≡ None → (side' ≡ None) × (line' ≡ line) × (reported ≡ [])
 
 module _ (from : From) (live : Live) (samples outs : List ℤ) (f f1 fault : Bool) (reps1 reps2 : List Report)
-    (o o' r : Stream) (line line1 line2 : LineTold) (made : Hosts) (size : length samples ≡ 96)
+    (o o' r : SinkTold) (line line1 line2 : LineTold) (made : Hosts) (size : length samples ≡ 96)
     (out : Puts f f1 (output_octets outs) o o') (later : fault ≡ false → f1 ≡ false) where
   -- the output after the samples, for the second call: if no write failed by then it has them all
   had_after : (key : KeyWords) → IsWrittenSince from (Some key) f live o r → fault ≡ false

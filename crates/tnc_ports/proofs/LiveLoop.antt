@@ -3,13 +3,12 @@ use Rattle.tnc_ports.proofs.Common.{Bool, true, false, Some, ◌≡◌, ℕ, ◌
 use Rattle.tnc_ports.proofs.Common.{arith, Reader, LiveReceiver, answers_in, WrotePart, Memory, ServeWords, Turning, PortsTold}
 use Rattle.tnc_ports.proofs.Common.{output_octets, report_text, Live, new_live, IsTurn, StandsForLive, Turns, IsCutOff}
 use Rattle.tnc_ports.proofs.Common.{Runs, Outside, IsRun, IsCutRun, IsCutTurn, IsCutInServing, PortsTell}
-use Rattle.tnc_ports.proofs.Common.{AllIsWritten, Stream, WritesMore}
+use Rattle.tnc_ports.proofs.Common.{AllIsWritten, SinkTold, WritesMore}
 use Rattle.std.proofs.Common.{suc, ◌⊎◌, ◌∷◌}
 use Rattle.slicer_bank.specs.RingLanes.{answers_of}
 use Rattle.tnc_ports.specs.declared.looping.LoopEnd.TheVariants.{Done, WriteFault}
 use Rattle.tnc_ports.specs.HeldMeter.{answers_with}
 use Rattle.tnc_ports.specs.Sampled.{answers_of_all}
-use Rattle.tnc_ports.specs.SampledHeld.{output_of, report_of}
 use Rattle.tnc_ports.proofs.Common.{From, KeyWords, KeyedSince, RunsOut, from_of}
 use Rattle.std.specs.Prelude.{Option, None, List, length, option_map}
 use Rattle.key_port.specs.KeyEvents.{lines_of}
@@ -37,7 +36,7 @@ lines_same port start None = refl
 lines_same port start (Some lines) = refl
 
 first_output : (start : ℕ) (key : Option KeyWords) (failed : Bool) (words : ServeWords) (o : Option (List ℕ))
-    (output : Stream) → output.written ≡ o → option_map (λ out. length out) o ≡ Some start
+    (output : SinkTold) → output.written ≡ o → option_map (λ out. length out) o ≡ Some start
     → IsOutputSince start key failed (new_live words) output
 unfolding number_in
 first_output start key failed words None output is e = absurd (cc e)
@@ -52,7 +51,7 @@ first_output start key failed words (Some out) output is e =
       whole = omega (arith, same);
     }
 
-first_report : (start : ℕ) (failed : Bool) (words : ServeWords) (o : Option (List ℕ)) (report : Stream)
+first_report : (start : ℕ) (failed : Bool) (words : ServeWords) (o : Option (List ℕ)) (report : SinkTold)
     → report.written ≡ o → option_map (λ out. length out) o ≡ Some start
     → IsReportSince start failed (new_live words) report
 unfolding number_in
@@ -71,16 +70,16 @@ first_untold None words = refl
 first_untold (Some key) words = refl
 
 pub first_written : (words : ServeWords) (key : Option KeyWords) (failed : Bool) (start : Outside)
-    → IsWrittenSince (from_of start) key failed (new_live words) (output_of start) (report_of start)
+    → IsWrittenSince (from_of start) key failed (new_live words) start.output start.report
 first_written words key failed start = record {
-  outputs = λ from e. first_output from key failed words start.output (output_of start) refl e;
-  reports = λ from e. first_report from failed words start.report (report_of start) refl e;
+  outputs = λ from e. first_output from key failed words start.output.written start.output refl e;
+  reports = λ from e. first_report from failed words start.report.written start.report refl e;
   lines = omega arith;
 }
 
 pub first_keyed : (words : ServeWords) (turning : Turning) (start : Outside)
     → KeyStands turning.words.key turning.key []
-    → KeyedSince (from_of start) turning (new_live words) (output_of start) (report_of start) start.line
+    → KeyedSince (from_of start) turning (new_live words) start.output start.report start.line
 first_keyed words turning start stands = record {
   stands = stands;
   untold = λ none. first_untold turning.words.key words;
@@ -99,9 +98,9 @@ runs_first words turning len receiver start stands same none key = record {
   stands = stands;
   words_kept = same;
   key = first_keyed words turning start key;
-  writes = subst (λ f. WritesMore false f (new_live words) (new_live words) (output_of start) (output_of start)
-      (report_of start) (report_of start)) (sym none)
-      (no_write false (new_live words) (output_of start) (report_of start));
+  writes = subst (λ f. WritesMore false f (new_live words) (new_live words) start.output start.output
+      start.report start.report) (sym none)
+      (no_write false (new_live words) start.output start.report);
   told = tells_nothing start;
   stay = record { listens = refl; faults = omega arith };
 }
@@ -109,7 +108,7 @@ runs_first words turning len receiver start stands same none key = record {
 -- one turn more
 pub runs_more : (words : ServeWords) (a b : Turning) (len : ℕ) (old receiver : LiveReceiver) (start x y : Outside)
     → (h : Runs words a len old start x)
-    → Turns (from_of start) false a b len receiver h.live (output_of x) (output_of y) (report_of x) (report_of y)
+    → Turns (from_of start) false a b len receiver h.live x.output y.output x.report y.report
     x.ports y.ports y.line
     → b.words ≡ a.words → y.ports.listens ≡ x.ports.listens → x.ports.faults ≤ y.ports.faults → Runs words b len receiver start y
 runs_more words a b len old receiver start x y h t same listens later = record {
@@ -120,8 +119,8 @@ runs_more words a b len old receiver start x y h t same listens later = record {
   stands = t.goes_on refl;
   words_kept = same ∙ h.words_kept;
   key = t.key;
-  writes = writes_more false a.failed b.failed (new_live words) h.live t.next (output_of start) (output_of x)
-      (output_of y) (report_of start) (report_of x) (report_of y) h.writes t.writes;
+  writes = writes_more false a.failed b.failed (new_live words) h.live t.next start.output x.output
+      y.output start.report x.report y.report h.writes t.writes;
   told = subst (λ xs. PortsTell xs start y) (sym t.asks)
       (tells_more h.live.asked t.asked start x y h.stay.faults later h.told t.tells);
   stay = stay_stay start x y h.stay listens later;
@@ -130,7 +129,7 @@ runs_more words a b len old receiver start x y h t same listens later = record {
 -- ---- what is written
 
 all_written : (words : ServeWords) (live : Live) (start now : Outside)
-    → WritesMore false false (new_live words) live (output_of start) (output_of now) (report_of start) (report_of now)
+    → WritesMore false false (new_live words) live start.output now.output start.report now.report
     → AllIsWritten live start now
 all_written words live start now h = record {
   output = λ was e. h.puts.0.written was e ∙ ap (λ s. Some (was ++ output_octets s)) (sym h.sent);
@@ -140,11 +139,12 @@ all_written words live start now h = record {
 }
 
 part_written : (words : ServeWords) (live : Live) (start now : Outside)
-    → WritesMore false true (new_live words) live (output_of start) (output_of now) (report_of start) (report_of now)
+    → WritesMore false true (new_live words) live start.output now.output start.report now.report
     → PartIsWritten live start now
 part_written words live start now h = record {
-  output = λ was e. subst (λ s. WrotePart was (output_octets s) now.output) (sym h.sent) (h.puts.0.written was e);
-  report = λ was e. subst (λ l. WrotePart was (report_text l) now.report) (sym h.more) (h.puts.1.written was e);
+  output = λ was e. subst (λ s. WrotePart was (output_octets s) now.output.written) (sym h.sent)
+      (h.puts.0.written was e);
+  report = λ was e. subst (λ l. WrotePart was (report_text l) now.report.written) (sym h.more) (h.puts.1.written was e);
   failed = h.puts.2;
 }
 
@@ -153,7 +153,7 @@ WrittenBy false live start now = AllIsWritten live start now
 WrittenBy true live start now = PartIsWritten live start now
 
 written : (failed : Bool) (words : ServeWords) (live : Live) (start now : Outside)
-    → WritesMore false failed (new_live words) live (output_of start) (output_of now) (report_of start) (report_of now)
+    → WritesMore false failed (new_live words) live start.output now.output start.report now.report
     → WrittenBy failed live start now
 written false words live start now h = all_written words live start now h
 written true words live start now h = part_written words live start now h
@@ -169,12 +169,12 @@ answered_by len receiver reader live lanes sound =
 
 whole : (words : ServeWords) (a b : Turning) (len : ℕ) (old receiver : LiveReceiver) (start x y : Outside)
     → (h : Runs words a len old start x)
-    → (t : Turns (from_of start) true a b len receiver h.live (output_of x) (output_of y) (report_of x) (report_of y)
+    → (t : Turns (from_of start) true a b len receiver h.live x.output y.output x.report y.report
     x.ports y.ports y.line)
     → y.ports.listens ≡ x.ports.listens → x.ports.faults ≤ y.ports.faults
     → IsWhole words (answers_with len receiver b.meter.reader) t.next start y
-    × WritesMore false b.failed (new_live words) t.next (output_of start) (output_of y) (report_of start)
-    (report_of y)
+    × WritesMore false b.failed (new_live words) t.next start.output y.output start.report
+    y.report
 whole words a b len old receiver start x y h t listens later =
     let run : IsRun words t.next = record {
       count = h.count;
@@ -196,16 +196,16 @@ whole words a b len old receiver start x y h t listens later =
         gaps = served.gaps;
         samples = served.samples;
       },
-      writes_more false a.failed b.failed (new_live words) h.live t.next (output_of start) (output_of x) (output_of y)
-          (report_of start) (report_of x) (report_of y) h.writes t.writes,
+      writes_more false a.failed b.failed (new_live words) h.live t.next start.output x.output y.output
+          start.report x.report y.report h.writes t.writes,
     )
 
 run_out : (words : ServeWords) (b : Turning) (live : Live) (start y : Outside) → b.words ≡ words
-    → KeyedSince (from_of start) b live (output_of y) (report_of y) y.line → IsRunOut words live b start y
+    → KeyedSince (from_of start) b live y.output y.report y.line → IsRunOut words live b start y
 run_out words b live start y same key = record { words_kept = same; key = key }
 
 as_told : (words : ServeWords) (b : Turning) (live : Live) (start y : Outside) → b.words ≡ words → b.failed ≡ false
-    → KeyedSince (from_of start) b live (output_of y) (report_of y) y.line
+    → KeyedSince (from_of start) b live y.output y.report y.line
     → AllIsWritten live start y → AllIsWrittenAsTold words.key live start y
 as_told words b live start y same none key all = record {
   written = all;
@@ -214,7 +214,7 @@ as_told words b live start y same none key all = record {
 
 pub loop_done : (words : ServeWords) (a b : Turning) (len : ℕ) (old receiver : LiveReceiver) (start x y : Outside)
     → (h : Runs words a len old start x)
-    → Turns (from_of start) true a b len receiver h.live (output_of x) (output_of y) (report_of x) (report_of y)
+    → Turns (from_of start) true a b len receiver h.live x.output y.output x.report y.report
     x.ports y.ports y.line
     → b.words ≡ a.words → y.ports.listens ≡ x.ports.listens → x.ports.faults ≤ y.ports.faults → b.failed ≡ false
     → RunsOut words Done (answers_with len receiver b.meter.reader) b start y
@@ -224,14 +224,14 @@ loop_done words a b len old receiver start x y h t same listens later none =
       t.next,
       w.0,
       as_told words b t.next start y kept none t.key (all_written words t.next start y
-          (subst (λ f. WritesMore false f (new_live words) t.next (output_of start) (output_of y) (report_of start)
-          (report_of y)) none w.1)),
+          (subst (λ f. WritesMore false f (new_live words) t.next start.output y.output start.report
+          y.report) none w.1)),
       run_out words b t.next start y kept t.key,
     )
 
 pub loop_fault : (words : ServeWords) (a b : Turning) (len : ℕ) (old receiver : LiveReceiver) (start x y : Outside)
     → (h : Runs words a len old start x)
-    → Turns (from_of start) true a b len receiver h.live (output_of x) (output_of y) (report_of x) (report_of y)
+    → Turns (from_of start) true a b len receiver h.live x.output y.output x.report y.report
     x.ports y.ports y.line
     → b.words ≡ a.words → y.ports.listens ≡ x.ports.listens → x.ports.faults ≤ y.ports.faults → b.failed ≡ true
     → RunsOut words WriteFault (answers_with len receiver b.meter.reader) b start y
@@ -240,13 +240,13 @@ loop_fault words a b len old receiver start x y h t same listens later some =
       t.next,
       w.0,
       part_written words t.next start y
-          (subst (λ f. WritesMore false f (new_live words) t.next (output_of start) (output_of y) (report_of start)
-          (report_of y)) some w.1),
+          (subst (λ f. WritesMore false f (new_live words) t.next start.output y.output start.report
+          y.report) some w.1),
       run_out words b t.next start y (same ∙ h.words_kept) t.key,
     )
 
 either : (words : ServeWords) (b : Turning) (live : Live) (start now : Outside) (failed : Bool) → b.failed ≡ failed
-    → b.words ≡ words → KeyedSince (from_of start) b live (output_of now) (report_of now) now.line
+    → b.words ≡ words → KeyedSince (from_of start) b live now.output now.report now.line
     → WrittenBy failed live start now
     → AllIsWrittenAsTold words.key live start now ⊎ PartIsWritten live start now
 either words b live start now false e same key h = inl (as_told words b live start now same e key h)
@@ -254,13 +254,13 @@ either words b live start now true e same key h = inr h
 
 pub loop_memory : (words : ServeWords) (a b : Turning) (len : ℕ) (old receiver : LiveReceiver) (start x y : Outside)
     → (h : Runs words a len old start x)
-    → IsCutOff (from_of start) a b len receiver h.live (output_of x) (output_of y) (report_of x) (report_of y)
+    → IsCutOff (from_of start) a b len receiver h.live x.output y.output x.report y.report
     x.ports y.ports y.line
     → b.words ≡ a.words → y.ports.listens ≡ x.ports.listens → x.ports.faults ≤ y.ports.faults
     → RunsOut words Memory (answers_with len receiver b.meter.reader) b start y
 loop_memory words a b len old receiver start x y h t same listens later =
-    let all = writes_more false a.failed b.failed (new_live words) h.live t.next (output_of start) (output_of x)
-    (output_of y) (report_of start) (report_of x) (report_of y) h.writes t.writes in
+    let all = writes_more false a.failed b.failed (new_live words) h.live t.next start.output x.output
+    y.output start.report x.report y.report h.writes t.writes in
     let run : IsCutRun words t.next = record {
       count = h.count;
       last = h.live;
@@ -316,14 +316,14 @@ loop_memory words a b len old receiver start x y h t same listens later =
 -- ---- whether a turn was the last
 
 pub turned_over : (from : From) (ended : Bool) (a b : Turning) (len : ℕ) (receiver : LiveReceiver) (live : Live)
-    (o o' r r' : Stream) (t t' : PortsTold) (line : LineTold) → ended ≡ true
+    (o o' r r' : SinkTold) (t t' : PortsTold) (line : LineTold) → ended ≡ true
     → Turns from ended a b len receiver live o o' r r' t t' line
     → Turns from true a b len receiver live o o' r r' t t' line
 turned_over from ended a b len receiver live o o' r r' t t' line e h =
     subst (λ x. Turns from x a b len receiver live o o' r r' t t' line) e h
 
 pub turned_on : (from : From) (ended : Bool) (a b : Turning) (len : ℕ) (receiver : LiveReceiver) (live : Live)
-    (o o' r r' : Stream) (t t' : PortsTold) (line : LineTold) → ended ≡ false
+    (o o' r r' : SinkTold) (t t' : PortsTold) (line : LineTold) → ended ≡ false
     → Turns from ended a b len receiver live o o' r r' t t' line
     → Turns from false a b len receiver live o o' r r' t t' line
 turned_on from ended a b len receiver live o o' r r' t t' line e h =

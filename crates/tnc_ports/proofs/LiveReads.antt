@@ -4,7 +4,7 @@ use Rattle.tnc_ports.proofs.Common.{subst, ◌∙◌, map-append, get_or-map, Ca
 use Rattle.tnc_ports.proofs.Common.{answer, LaneGap, lane_of, least_position, answers_of, MeetsEnd, AreDueBy}
 use Rattle.tnc_ports.proofs.Common.{LiveReceiver, readers_in, answers_in, Hears, LanesListen, listening_of, readers_wanted, Turning}
 use Rattle.tnc_ports.proofs.Common.{ServeWords, StandsFor, report_text, Live, HaveEnded, gap_line, with_lines}
-use Rattle.tnc_ports.proofs.Common.{StandsForLive, Reads, IsCutInReading, Stream, Puts}
+use Rattle.tnc_ports.proofs.Common.{StandsForLive, Reads, IsCutInReading, SinkTold, Puts}
 use Rattle.std.proofs.Common.{List, ◌∷◌}
 use Rattle.std.proofs.lemmas.List.{get_or_default}
 use Rattle.std.proofs.lemmas.List.Elements.{Contains-append_right}
@@ -79,7 +79,7 @@ module _ (listening : Listening) (ended : Bool) (lowest : ℕ) (items : List Can
       × (lowest ≡ least_position now) × (least_position old ≤ lowest)
 
 pub reads_all : (ended : Bool) (lowest : ℕ) (items : List Candidate) (before after : Turning) (len : ℕ)
-    (old receiver : LiveReceiver) (live : Live) (gaps : List LaneGap) (text : List ℕ) (r r' : Stream)
+    (old receiver : LiveReceiver) (live : Live) (gaps : List LaneGap) (text : List ℕ) (r r' : SinkTold)
     → StandsForLive before len old live
     → IsTurnOf (readers_wanted (listening_of old)) (answers_in len old) (answers_in len receiver) gaps ended
     → (Hears len old → AreDueBy (listening_of old) ended (answers_in len old) (answers_in len receiver) items)

@@ -1,4 +1,5 @@
 -- Facts on serving as a whole.
+use Rattle.tnc_base.specs.Streams.{SourceTold}
 use Rattle.tnc_ports.proofs.Common.{Bool, true, false, Contains, ℤ, Some, None, ◌==◌, if◌then◌else◌, zero, suc, Result}
 use Rattle.tnc_ports.proofs.Common.{Ok, Err, is_err, OnOk, All, replicate, ◌≡◌, ℕ, ◌+◌, ◌-◌, ◌<◌, [], ◌++◌, get_or}
 use Rattle.tnc_ports.proofs.Common.{length, map, refl, sym, ap, subst, inl, inr, ◌∙◌, arith, append-nil, length-map}
@@ -28,7 +29,7 @@ use Rattle.host_ports.specs.declared.records.Listen.{Listen}
 use Rattle.tnc_ports.specs.declared.serving.ServeEnd.{ServeEnd}
 use Rattle.tnc_ports.specs.declared.serving.ServeEnd.TheVariants.{Memory as NoMemory, NoThread}
 use Rattle.tnc_ports.specs.declared.pumping.PumpEnd.{PumpEnd}
-use Rattle.tnc_ports.specs.ServeRun.{InputSide, ring_cells, answers_of_record, LanesStandIn, end_of, OnlyListens}
+use Rattle.tnc_ports.specs.ServeRun.{ring_cells, answers_of_record, LanesStandIn, end_of, OnlyListens}
 use Rattle.tnc_ports.specs.ServeRun.{HasOpened, HasServed, IsServed}
 use Rattle.tnc_ports.specs.SampledPump.{IsClosed, IsLoopedIf}
 use Rattle.tnc_ports.proofs.LiveAccounts.{are_sent, are_shut}
@@ -223,7 +224,7 @@ fresh_last ring all rest (Some last) some is fresh =
 
 -- ---- by how serving ends
 
-pub served : (words : ServeWords) (loop : LoopEnd) (pump : PumpEnd) (end : ServeEnd) (input left : InputSide)
+pub served : (words : ServeWords) (loop : LoopEnd) (pump : PumpEnd) (end : ServeEnd) (input left : SourceTold)
     (before after : Outside) → end ≡ end_of loop pump
     → HasServed words end input left before after → IsServed words end input left before after
 served words LoopDone InputEnd end input left before after e h =
@@ -253,12 +254,12 @@ pub has_opened : {T E : Type 0} → (words : ServeWords) (before after : Outside
 has_opened words before after (Ok v) failed e f opens only = record { opened = opens; only = only }
 has_opened words before after (Err x) failed e f opens only = absurd (false≢true (sym f ∙ e))
 
-pub no_ring : (words : ServeWords) (input : InputSide) (before after : Outside) → HasOpened words before after
+pub no_ring : (words : ServeWords) (input : SourceTold) (before after : Outside) → HasOpened words before after
     → IsServed words NoMemory input input before after
 no_ring words input before after h = inl (record { opens = h; unread = refl })
 
 -- without a thread
-pub no_thread : (words : ServeWords) (end : LoopEnd) (lanes : List (List Got)) (begins : Bool) (input left : InputSide)
+pub no_thread : (words : ServeWords) (end : LoopEnd) (lanes : List (List Got)) (begins : Bool) (input left : SourceTold)
     (before opened after : Outside) → HasOpened words before opened → begins ≡ false → left ≡ input
     → IsLoopedIf begins words end lanes opened after → IsServed words NoThread input left before after
 no_thread words end lanes begins input left before opened after opens given_up unread looped =
@@ -266,7 +267,7 @@ no_thread words end lanes begins input left before opened after opens given_up u
     record { opens = subst (HasOpened words before) (sym same) opens; unread = unread }
 
 pub all_served : (words : ServeWords) (loop : LoopEnd) (end : ServeEnd) (len : ℕ) (receiver : LiveReceiver)
-    (sound : Option Reader) (input left : InputSide) (before opened after : Outside)
+    (sound : Option Reader) (input left : SourceTold) (before opened after : Outside)
     → HasOpened words before opened → IsLooped words loop (answers_if len receiver sound) opened after
     → IsClosed words.rate loop end (answers_if ring_cells receiver sound) input left → len ≡ ring_cells
     → IsServed words end input left before after

@@ -6,7 +6,7 @@ use Rattle.tnc_ports.proofs.Common.{Candidate, Got, ReportLine, Turning, PortsTo
 use Rattle.tnc_ports.proofs.Common.{Hosts, Asked, IsHostPart, report_text, Live, AreHeard, AreTicked}
 use Rattle.tnc_ports.proofs.Common.{IsTurn, ReceivedLine, SentLine, with_lines, AreReceivedLines, AreSentLines}
 use Rattle.tnc_ports.proofs.Common.{IsFrameHeard, Keeps, HearsFrames, HearsSome, Ticks, TicksAll, ServesAll}
-use Rattle.tnc_ports.proofs.Common.{AreTurns, Stream, Puts, ReportsMore, WritesMore, ServeWords, From, KeyedSince}
+use Rattle.tnc_ports.proofs.Common.{AreTurns, SinkTold, Puts, ReportsMore, WritesMore, ServeWords, From, KeyedSince}
 use Rattle.key_port.specs.declared.key_side.KeySide.{KeySide}
 use Rattle.key_port.specs.KeyLines.{LineTold}
 use Rattle.tnc_ports.specs.SampledHeld.{KeyStands, LineStands, IsWrittenSince}
@@ -100,7 +100,7 @@ IsHearing octets before after = (hosts : Hosts) (printed : List ReportLine) → 
     → (next : Hosts) × IsHeardStep octets hosts next × StandsFor after printed next
 
 pub hears_frame : (octets : List ℕ) (before after : Turning) (between : HeldHosts) (hosts : Hosts)
-    (shown taken : List ReportLine) (text : List ℕ) (report report' : Stream)
+    (shown taken : List ReportLine) (text : List ℕ) (report report' : SinkTold)
     → Keeps before.hosts hosts → AreReceivedLines before.words.monitor octets hosts.station.links shown
     → IsHearing octets before.hosts between → AreTakenLines between after.hosts taken
     → text ≡ report_text (shown ++ taken) → Puts before.failed after.failed text report report'
@@ -128,7 +128,7 @@ heard_more monitor [] item a b c h g = (c, subst (λ x. IsFrameHeard monitor ite
 heard_more monitor (first ∷ items) item a b c h g = (h.0, h.1, heard_more monitor items item h.0 b c h.2 g)
 
 pub hears_more : (items : List Candidate) (item : Candidate) (octets : List ℕ) (first before after : Turning)
-    (hosts : Hosts) (r r' r'' : Stream)
+    (hosts : Hosts) (r r' r'' : SinkTold)
     → octets ≡ item.octets → before.words ≡ first.words
     → HearsFrames items first before hosts r r'
     → ((hosts : Hosts) → Keeps before.hosts hosts → HearsFrame octets before after hosts r' r'')
@@ -146,7 +146,7 @@ hears_more items item octets first before after hosts r r' r'' is words h hear =
 
 -- with the next of the frames
 pub hears_next : (items : List Candidate) (k : ℕ) (item : Candidate) (octets : List ℕ) (first before after : Turning)
-    (hosts : Hosts) (r r' r'' : Stream)
+    (hosts : Hosts) (r r' r'' : SinkTold)
     → k < length items → item ≡ get_or items k item → octets ≡ item.octets → before.words ≡ first.words
     → HearsFrames (take k items) first before hosts r r'
     → ((hosts : Hosts) → Keeps before.hosts hosts → HearsFrame octets before after hosts r' r'')
@@ -157,7 +157,7 @@ hears_next items k item octets first before after hosts r r' r'' lt at is words 
     subst (λ xs. HearsFrames xs first after hosts r r'') (sym e)
     (hears_more (take k items) item octets first before after hosts r r' r'' is words h hear)
 
-pub hears_none : (turning : Turning) (items : List Candidate) (hosts : Hosts) (r : Stream) → Keeps turning.hosts hosts
+pub hears_none : (turning : Turning) (items : List Candidate) (hosts : Hosts) (r : SinkTold) → Keeps turning.hosts hosts
     → HearsFrames (take 0 items) turning turning hosts r r
 hears_none turning items hosts r keeps = record {
   next = hosts;
@@ -166,13 +166,13 @@ hears_none turning items hosts r keeps = record {
   writes = no_report turning.failed hosts r;
 }
 
-pub hears_done : (items : List Candidate) (k : ℕ) (first after : Turning) (hosts : Hosts) (r r' : Stream)
+pub hears_done : (items : List Candidate) (k : ℕ) (first after : Turning) (hosts : Hosts) (r r' : SinkTold)
     → length items ≤ k
     → HearsFrames (take k items) first after hosts r r' → HearsFrames items first after hosts r r'
 hears_done items k first after hosts r r' past h = subst (λ xs. HearsFrames xs first after hosts r r')
     (take_all k items past) h
 
-pub hears_some : (items : List Candidate) (k : ℕ) (first before after : Turning) (hosts : Hosts) (r r' r'' : Stream)
+pub hears_some : (items : List Candidate) (k : ℕ) (first before after : Turning) (hosts : Hosts) (r r' r'' : SinkTold)
     → HearsFrames (take k items) first before hosts r r' → r'' ≡ r' → after.failed ≡ before.failed
     → HearsSome items first after hosts r r''
 hears_some items k first before after hosts r r' r'' h same failed = record {
@@ -186,7 +186,7 @@ hears_some items k first before after hosts r r' r'' h same failed = record {
 }
 
 -- with other counts
-pub hears_counted : (items : List Candidate) (first after last : Turning) (hosts : Hosts) (r r' : Stream)
+pub hears_counted : (items : List Candidate) (first after last : Turning) (hosts : Hosts) (r r' : SinkTold)
     → last.hosts ≡ after.hosts → last.failed ≡ after.failed → HearsFrames items first after hosts r r'
     → HearsFrames items first last hosts r r'
 hears_counted items first after last hosts r r' same failed h = record {
@@ -196,19 +196,19 @@ hears_counted items first after last hosts r r' same failed h = record {
   writes = subst (λ (f : Bool). ReportsMore first.failed f hosts h.next r r') (sym failed) h.writes;
 }
 
-pub hears_same : (items others : List Candidate) (first after : Turning) (hosts : Hosts) (r r' : Stream)
+pub hears_same : (items others : List Candidate) (first after : Turning) (hosts : Hosts) (r r' : SinkTold)
     → items ≡ others
     → HearsFrames items first after hosts r r' → HearsFrames others first after hosts r r'
 hears_same items others first after hosts r r' e h = subst (λ xs. HearsFrames xs first after hosts r r') e h
 
-pub hears_some_same : (items others : List Candidate) (first after : Turning) (hosts : Hosts) (r r' : Stream)
+pub hears_some_same : (items others : List Candidate) (first after : Turning) (hosts : Hosts) (r r' : SinkTold)
     → items ≡ others
     → HearsSome items first after hosts r r' → HearsSome others first after hosts r r'
 hears_some_same items others first after hosts r r' e h = subst (λ xs. HearsSome xs first after hosts r r') e h
 
 -- ---- a key to which nothing was done
 
-pub keyed_same : (from : From) (before after : Turning) (live : Live) (o o' r r' : Stream) (line line' : LineTold)
+pub keyed_same : (from : From) (before after : Turning) (live : Live) (o o' r r' : SinkTold) (line line' : LineTold)
     → o' ≡ o → r' ≡ r → line' ≡ line → after.failed ≡ before.failed → after.words ≡ before.words
     → after.key ≡ before.key → KeyedSince from before live o r line → KeyedSince from after live o' r' line'
 keyed_same from before after live o o' r r' line line' so sr sl failed words key h = record {
@@ -217,8 +217,8 @@ keyed_same from before after live o o' r r' line line' so sr sl failed words key
   untold = λ none. ap (λ (w : ServeWords). key_failed w.key live) words ∙ h.untold (sym failed ∙ none);
   written = subst (λ (w : ServeWords). IsWrittenSince from w.key after.failed live o' r') (sym words)
       (subst (λ (f : Bool). IsWrittenSince from before.words.key f live o' r') (sym failed)
-      (subst (λ (s : Stream). IsWrittenSince from before.words.key before.failed live s r') (sym so)
-      (subst (λ (s : Stream). IsWrittenSince from before.words.key before.failed live o s) (sym sr) h.written)));
+      (subst (λ (s : SinkTold). IsWrittenSince from before.words.key before.failed live s r') (sym so)
+      (subst (λ (s : SinkTold). IsWrittenSince from before.words.key before.failed live o s) (sym sr) h.written)));
   line_stands = subst (λ (w : ServeWords). LineStands from w.key live line') (sym words)
       (subst (λ (l : LineTold). LineStands from before.words.key live l) (sym sl) h.line_stands);
 }
@@ -256,7 +256,7 @@ ticked_to words busy (suc count) a b h =
     }
 
 pub ticks_more : (from : From) (busy : Bool) (count tick len : ℕ) (first before after : Turning) (live : Live)
-    (o o' o'' r r' r'' : Stream) (line line' : LineTold)
+    (o o' o'' r r' r'' : SinkTold) (line line' : LineTold)
     → before.words ≡ first.words → tick ≡ live.ticks + count
     → TicksAll from busy count len first before live o o' r r' line
     → ((live : Live) → Keeps before.hosts live.hosts → tick ≡ live.ticks
@@ -280,7 +280,8 @@ ticks_more from busy count tick len first before after live o o' o'' r r' r'' li
       measures = subst (λ (w : ServeWords). Measures len w.rate after.meter one.next) words one.measures;
     }
 
-pub ticks_none : (from : From) (busy : Bool) (len : ℕ) (turning : Turning) (live : Live) (o r : Stream) (line : LineTold)
+pub ticks_none : (from : From) (busy : Bool) (len : ℕ) (turning : Turning) (live : Live) (o r : SinkTold)
+    (line : LineTold)
     → Keeps turning.hosts live.hosts → turning.ticks ≡ live.ticks
     → Measures len turning.words.rate turning.meter live
     → KeyedSince from turning live o r line
@@ -295,7 +296,8 @@ ticks_none from busy len turning live o r line keeps at measures key = record {
   measures = measures;
 }
 
-pub ticks_done : (from : From) (busy : Bool) (count due len : ℕ) (first after : Turning) (live : Live) (o o' r r' : Stream)
+pub ticks_done : (from : From) (busy : Bool) (count due len : ℕ) (first after : Turning) (live : Live)
+    (o o' r r' : SinkTold)
     (line' : LineTold) → count ≡ due → TicksAll from busy count len first after live o o' r r' line'
     → TicksAll from busy due len first after live o o' r r' line'
 ticks_done from busy count due len first after live o o' r r' line' e h =
@@ -309,7 +311,7 @@ count_due (suc n) tick ticks due a b t = let positive : 0 < suc n = omega arith 
     omega (arith, a, h, t)
 
 pub ticks_some : (from : From) (busy : Bool) (count len : ℕ) (first before after : Turning) (live : Live)
-    (o o' o'' r r' r'' : Stream) (line line' : LineTold)
+    (o o' o'' r r' r'' : SinkTold) (line line' : LineTold)
     → TicksAll from busy count len first before live o o' r r' line → o'' ≡ o' → r'' ≡ r' → line' ≡ line
     → after.failed ≡ before.failed → after.words ≡ before.words → after.key ≡ before.key
     → ((more : List Got) × (answers_of len after.meter.reader ≡ answers_of len before.meter.reader ++ more))
@@ -328,7 +330,7 @@ ticks_some from busy count len first before after live o o' o'' r r' r'' line li
 -- ---- hosts
 
 pub serves_all : (before after : Turning) (between : HeldHosts) (hosts : Hosts) (taken : List ReportLine)
-    (text : List ℕ) (report report' : Stream) (told told' : PortsTold)
+    (text : List ℕ) (report report' : SinkTold) (told told' : PortsTold)
     → Keeps before.hosts hosts
     → ((hosts : Hosts) (printed : List ReportLine) → StandsFor before.hosts printed hosts
     → (asked : Asked) × (next : Hosts) × IsHostPart asked hosts next × StandsFor between printed next

@@ -8,7 +8,7 @@ use Rattle.key_port.specs.declared.key_side.KeySide.{KeySide}
 use Rattle.key_port.specs.KeyEvents.{KeyEvent}
 use Rattle.key_port.specs.KeyLines.{LineTold}
 use Rattle.tnc_ports.proofs.Common.{AirTick, AreSentLines, From, Hosts, IsTickMade, Keeps, KeyWords, KeyedSince, Live}
-use Rattle.tnc_ports.proofs.Common.{Puts, ReportLine, ServeWords, StandsFor, Stream, TicksAll, Turning, append_assoc}
+use Rattle.tnc_ports.proofs.Common.{Puts, ReportLine, ServeWords, StandsFor, SinkTold, TicksAll, Turning, append_assoc}
 use Rattle.tnc_ports.proofs.Common.{is_held, key_line, output_octets, report_text, with_lines}
 use Rattle.sound_rate.specs.HeldRates.{HasMade}
 use Rattle.sound_rate.specs.Rates.{written_at}
@@ -27,7 +27,8 @@ use Rattle.tnc_ports.proofs.LiveWrites.{both_puts, puts_puts, report_text-append
 
 pub ticks_once : (from : From) (len : ℕ) (busy held : Bool) (air : AirTick) (before after : Turning) (between : HeldHosts)
     (live : Live) (shown taken : List ReportLine) (reps1 reps2 : List Report) (side1 side2 : Option KeySide)
-    (f1 f2 f3 f4 : Bool) (outs : List ℤ) (text told : List ℕ) (o o' r r1 r2 r3 r4 : Stream) (line line1 line2 : LineTold)
+    (f1 f2 f3 f4 : Bool) (outs : List ℤ) (text told : List ℕ) (o o' r r1 r2 r3 r4 : SinkTold)
+    (line line1 line2 : LineTold)
     (notes : HealthNotes) (was read : Health) (measured : HasReadTick len live was read after.meter)
     → Keeps before.hosts live.hosts → KeyedSince from before live o r line
     → held ≡ (busy || is_held before.words.key live.keyed)

@@ -5,7 +5,7 @@ use Rattle.tnc_ports.proofs.Common.{listening_of}
 use Rattle.tnc_ports.proofs.Common.{answers_in, LanesListen, Turning, ServeWords, PortsTold, AreUnasked, IsAsked, Hosts}
 use Rattle.tnc_ports.proofs.Common.{Asked, Live, HaveEnded, with_hosts, AreHeard, AreTicked, HearsAll, MakesAll, Keeps}
 use Rattle.tnc_ports.proofs.Common.{StandsForLive, HearsFrames, HearsSome, Ticks, TicksAll, ServesAll, Reads, Turns}
-use Rattle.tnc_ports.proofs.Common.{IsCutOff, IsCutInReading, IsCutInServing, Stream, WritesMore}
+use Rattle.tnc_ports.proofs.Common.{IsCutOff, IsCutInReading, IsCutInServing, SinkTold, WritesMore}
 use Rattle.std.proofs.Common.{◌⊎◌, List, ◌∷◌, length}
 use Rattle.live_receiver.specs.Listening.{IsBusyBy}
 use Rattle.host_ports.specs.CutPart.{HasCutPart}
@@ -34,7 +34,7 @@ use Rattle.tnc_ports.proofs.LiveSteps.{keyed_same, ticked_to}
 use Rattle.tnc_ports.proofs.LiveWrites.{writes_more, writes_report, no_write, no_report, reports_more}
 
 -- nothing is written
-pub writes_nothing : (f f' : Bool) (a b : Live) (o o' r r' : Stream) → f' ≡ f → o' ≡ o → r' ≡ r → b.sent ≡ a.sent
+pub writes_nothing : (f f' : Bool) (a b : Live) (o o' r r' : SinkTold) → f' ≡ f → o' ≡ o → r' ≡ r → b.sent ≡ a.sent
     → b.hosts.report ≡ a.hosts.report → WritesMore f f' a b o o' r r'
 writes_nothing f f' a b o o' r r' ef eo er es eh =
     let none = no_write f a o r in
@@ -56,7 +56,7 @@ abbrev pub counted_in : ℕ → Meter → Meter
 counted_in count meter = record meter { health = with_heard count meter.health }
 
 hears_all : (ended : Bool) (least : ℕ) (items : List Candidate) (before a b : Turning) (len : ℕ)
-    (receiver : LiveReceiver) (live : Live) (r0 r1 r2 : Stream)
+    (receiver : LiveReceiver) (live : Live) (r0 r1 r2 : SinkTold)
     → (h : Reads ended least items before a len receiver live r0 r1) → (g : HearsFrames items a b h.read.hosts r1 r2)
     → a.words ≡ before.words → HearsAll before.words ended live (having_heard items g.next h.read)
 hears_all ended least items before a b len receiver live r0 r1 r2 h g words = record {
@@ -70,7 +70,7 @@ hears_all ended least items before a b len receiver live r0 r1 r2 h g words = re
 }
 
 heard_writes : (ended : Bool) (least : ℕ) (items : List Candidate) (before a b : Turning) (len : ℕ)
-    (receiver : LiveReceiver) (live : Live) (o r0 r1 r2 : Stream)
+    (receiver : LiveReceiver) (live : Live) (o r0 r1 r2 : SinkTold)
     → (h : Reads ended least items before a len receiver live r0 r1) → (g : HearsFrames items a b h.read.hosts r1 r2)
     → WritesMore before.failed b.failed live (with_hosts g.next h.read) o o r0 r2
 heard_writes ended least items before a b len receiver live o r0 r1 r2 h g =
@@ -123,7 +123,7 @@ makes_all ended busy least before b len receiver live heard keyed next hears key
     }
 
 read_ticks : (ended : Bool) (least : ℕ) (items : List Candidate) (before a : Turning) (len : ℕ)
-    (receiver : LiveReceiver) (live : Live) (r0 r1 : Stream)
+    (receiver : LiveReceiver) (live : Live) (r0 r1 : SinkTold)
     → (h : Reads ended least items before a len receiver live r0 r1) → h.read.ticks ≡ live.ticks
 read_ticks ended least items before a len receiver live r0 r1 h = ap (λ (l : Live). l.ticks) h.reads.is
 
@@ -136,13 +136,13 @@ line_alike from (Some key) live next line same h = subst (λ (events : List KeyE
     (sym same) h
 
 -- other lanes
-relaned : (from : From) (key : Option KeyWords) (failed : Bool) (live : Live) (lanes : List (List Got)) (o r : Stream)
+relaned : (from : From) (key : Option KeyWords) (failed : Bool) (live : Live) (lanes : List (List Got)) (o r : SinkTold)
     → IsWrittenSince from key failed live o r → IsWrittenSince from key failed (record live { lanes = lanes }) o r
 relaned from key failed live lanes o r h = written_since from key failed failed live (record live { lanes = lanes }) o r r
     refl refl refl (no_report failed live.hosts r) h
 
 -- what the readers and the frames report is written, and the key did nothing
-keyed_heard : (from : From) (before b : Turning) (live next : Live) (o r r' : Stream) (line : LineTold)
+keyed_heard : (from : From) (before b : Turning) (live next : Live) (o r r' : SinkTold) (line : LineTold)
     → b.words ≡ before.words → b.key ≡ before.key → next.sent ≡ live.sent → next.whole ≡ live.whole
     → next.keyed ≡ live.keyed → ReportsMore before.failed b.failed live.hosts next.hosts r r'
     → KeyedSince from before live o r line → KeyedSince from b next o r' line
@@ -163,7 +163,7 @@ keyed_heard from before b live next o r r' line words key sent whole keyed write
 
 -- up to the key's turn
 pub record Keyed (from : From) (ended : Bool) (least : ℕ) (before k : Turning) (len : ℕ) (receiver : LiveReceiver)
-    (live : Live) (o r0 r3 : Stream) (line : LineTold) : Type 0 where
+    (live : Live) (o r0 r3 : SinkTold) (line : LineTold) : Type 0 where
   pub heard : Live
   pub hears : HearsAll before.words ended live heard
   pub next : Live
@@ -178,7 +178,7 @@ pub record Keyed (from : From) (ended : Bool) (least : ℕ) (before k : Turning)
   pub writes : WritesMore before.failed k.failed live next o o r0 r3
 
 keyed_up_to : (from : From) (ended : Bool) (least : ℕ) (items : List Candidate) (before a b k : Turning) (len : ℕ)
-    (receiver : LiveReceiver) (live : Live) (o r0 r1 r2 r3 : Stream) (line line1 : LineTold)
+    (receiver : LiveReceiver) (live : Live) (o r0 r1 r2 r3 : SinkTold) (line line1 : LineTold)
     → KeyedSince from before live o r0 line
     → Reads ended least items before a len receiver live r0 r1
     → ((hosts : Hosts) → Keeps a.hosts hosts → HearsFrames items a b hosts r1 r2)
@@ -225,7 +225,7 @@ keyed_up_to from ended least items before a b k len receiver live o r0 r1 r2 r3 
     }
 
 pub all_made : (from : From) (ended busy : Bool) (least : ℕ) (items : List Candidate) (before a b k c : Turning)
-    (len : ℕ) (old receiver : LiveReceiver) (live : Live) (o o' r0 r1 r2 r3 r4 : Stream) (line line1 line2 : LineTold)
+    (len : ℕ) (old receiver : LiveReceiver) (live : Live) (o o' r0 r1 r2 r3 r4 : SinkTold) (line line1 line2 : LineTold)
     → StandsForLive before len old live → KeyedSince from before live o r0 line
     → Reads ended least items before a len receiver live r0 r1
     → ((hosts : Hosts) → Keeps a.hosts hosts → HearsFrames items a b hosts r1 r2)
@@ -267,7 +267,7 @@ all_made from ended busy least items before a b k c len old receiver live o o' r
     }
 
 pub whole_turn : (from : From) (ended : Bool) (before c d : Turning) (len : ℕ) (receiver : LiveReceiver) (live : Live)
-    (o o' r0 r3 r4 : Stream) (told told' : PortsTold) (line : LineTold)
+    (o o' r0 r3 r4 : SinkTold) (told told' : PortsTold) (line : LineTold)
     → Makes from ended before c len receiver live o o' r0 r3 line
     → ((hosts : Hosts) → Keeps c.hosts hosts → ServesAll c d hosts r3 r4 told told')
     → d.ticks ≡ c.ticks → c.words ≡ before.words → d.words ≡ c.words → d.key ≡ c.key → d.meter ≡ c.meter
@@ -322,7 +322,8 @@ measured_so len rate before after live next same h sound = (
   ap (λ (m : Meter). answers_of len m.reader) same ∙ h.sound ∙ sym sound ∙ sym (append-nil next.sound),
 )
 
-pub cut_reading : (from : From) (before a : Turning) (len : ℕ) (receiver : LiveReceiver) (live : Live) (o r0 r1 : Stream)
+pub cut_reading : (from : From) (before a : Turning) (len : ℕ) (receiver : LiveReceiver) (live : Live)
+    (o r0 r1 : SinkTold)
     (told : PortsTold) (line : LineTold)
     → KeyedSince from before live o r0 line
     → IsCutInReading before.words live (record live { lanes = answers_in len receiver }) → a.failed ≡ before.failed
@@ -352,7 +353,7 @@ cut_reading from before a len receiver live o r0 r1 told line key cut failed wor
 }
 
 pub cut_hearing : (from : From) (ended : Bool) (least : ℕ) (items : List Candidate) (before a b : Turning) (len : ℕ)
-    (receiver : LiveReceiver) (live : Live) (o r0 r1 r2 : Stream) (told : PortsTold) (line : LineTold)
+    (receiver : LiveReceiver) (live : Live) (o r0 r1 r2 : SinkTold) (told : PortsTold) (line : LineTold)
     → KeyedSince from before live o r0 line
     → Reads ended least items before a len receiver live r0 r1
     → ((hosts : Hosts) → Keeps a.hosts hosts → HearsSome items a b hosts r1 r2)
@@ -392,7 +393,7 @@ cut_hearing from ended least items before a b len receiver live o r0 r1 r2 told 
     }
 
 pub cut_ticking : (from : From) (ended busy : Bool) (least : ℕ) (items : List Candidate) (before a b k c : Turning)
-    (len : ℕ) (old receiver : LiveReceiver) (live : Live) (o o' r0 r1 r2 r3 r4 : Stream) (told : PortsTold)
+    (len : ℕ) (old receiver : LiveReceiver) (live : Live) (o o' r0 r1 r2 r3 r4 : SinkTold) (told : PortsTold)
     (line line1 line2 : LineTold)
     → StandsForLive before len old live → KeyedSince from before live o r0 line
     → Reads ended least items before a len receiver live r0 r1
@@ -445,7 +446,7 @@ in_serving words ended before made told told' makes (inr some) =
     inr (some.0, some.1, record { ended = ended; makes = makes; part = some.2 }, some.3)
 
 pub cut_serving : (from : From) (ended : Bool) (before c d : Turning) (len : ℕ) (receiver : LiveReceiver) (live : Live)
-    (o o' r0 r3 r4 : Stream) (told told' : PortsTold) (line : LineTold)
+    (o o' r0 r3 r4 : SinkTold) (told told' : PortsTold) (line : LineTold)
     → Makes from ended before c len receiver live o o' r0 r3 line
     → d.failed ≡ c.failed → d.words ≡ c.words → d.key ≡ c.key → r4 ≡ r3
     → ((hosts : Hosts) → Keeps c.hosts hosts → HasCutPart hosts told told') → d.meter ≡ c.meter

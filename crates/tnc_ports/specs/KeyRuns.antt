@@ -77,7 +77,7 @@ pub record SoundsKeyed (words : ServeWords) (key : KeyWords) (start : ℕ) (was 
 pub record IsKeyedRun (words : ServeWords) (key : KeyWords) (was : List KeyLine) (out : List ℕ) (after : Outside)
     (ticks : List (RunTick words)) : Type 0 where
   -- the output has what goes out for the samples of the ticks, at its rate, or a first part of that
-  pub written : WrotePart out (output_octets (written_at words.rate (samples_of words ticks))) after.output
+  pub written : WrotePart out (output_octets (written_at words.rate (samples_of words ticks))) after.output.written
   -- no tick with sound is without a key
   pub sounds : EachTick words (λ tick older. sounds_in words tick ≡ true
       → SoundsKeyed words key (length out) was tick older) ticks

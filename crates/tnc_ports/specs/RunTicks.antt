@@ -3,6 +3,7 @@ use mathlib.Core.Logic.{inl, inr}
 use Rattle.std.specs.Prelude.{ℕ, zero, suc, ℤ, Bool, true, false, List, [], ◌∷◌, ◌++◌, is_some}
 use Rattle.channel_access.specs.Sound.{has_sound}
 use Rattle.sample_ring.specs.declared.got.Got.{Got}
+use Rattle.tnc_base.specs.Streams.{SourceTold}
 use Rattle.tnc_ports.specs.declared.looping.LoopEnd.{LoopEnd}
 use Rattle.tnc_ports.specs.declared.looping.LoopEnd.TheVariants.{Done as LoopDone, Memory as LoopMemory}
 use Rattle.tnc_ports.specs.declared.looping.LoopEnd.TheVariants.{WriteFault as LoopFault}
@@ -12,7 +13,7 @@ use Rattle.tnc_ports.specs.declared.serving.ServeEnd.TheVariants.{Done, TooLong,
 use Rattle.tnc_ports.specs.declared.serving.ServeEnd.TheVariants.{NoThread}
 use Rattle.tnc_ports.specs.Sampled.{Live, AreTicked, IsTicked, MakesAll, MakesTicks, new_live}
 use Rattle.tnc_ports.specs.SampledRun.{AreTurns, IsCutRun, IsCutTurn, IsLooped, IsRun, Outside}
-use Rattle.tnc_ports.specs.ServeRun.{InputSide, IsServed}
+use Rattle.tnc_ports.specs.ServeRun.{IsServed}
 
 -- A tick of a run: whether another station was heard, what the station was before the tick and after it, and how that
 -- came to pass.
@@ -99,7 +100,7 @@ ticks_looped words LoopFault answers before after h = ticks_of_run words h.0 h.1
 ticks_looped words LoopMemory answers before after h = ticks_of_cut_run words h.0 h.1.run
 
 -- Without ports, without memory for the ring and without a thread no tick is made.
-abbrev pub ticks_served : (words : ServeWords) (end : ServeEnd) (input left : InputSide) (before after : Outside)
+abbrev pub ticks_served : (words : ServeWords) (end : ServeEnd) (input left : SourceTold) (before after : Outside)
     → IsServed words end input left before after → List (RunTick words)
 ticks_served words Done input left before after h = ticks_looped words h.loop h.lanes h.open_ports after h.looped
 ticks_served words TooLong input left before after h = ticks_looped words h.loop h.lanes h.open_ports after h.looped

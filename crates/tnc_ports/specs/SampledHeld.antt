@@ -18,6 +18,7 @@ use Rattle.slicer_bank.specs.RingLanes.{answers_of}
 use Rattle.live_receiver.specs.Listening.{AreDueBy}
 use Rattle.live_receiver.specs.declared.receiver.LiveReceiver.{LiveReceiver}
 use Rattle.live_receiver.specs.LiveReceivers.{answers_in, listening_of, Hears, LanesListen}
+use Rattle.tnc_base.specs.Streams.{SinkTold}
 use Rattle.tnc_ports.specs.declared.looping.LoopEnd.{LoopEnd}
 use Rattle.tnc_ports.specs.declared.looping.LoopEnd.TheVariants.{Done, Memory, WriteFault}
 use Rattle.tnc_ports.specs.declared.serve_words.KeyWords.{KeyWords}
@@ -35,7 +36,7 @@ use Rattle.tnc_ports.specs.SampledFrames.{IsFrameHeard}
 use Rattle.tnc_ports.specs.ReportText.{report_text}
 use Rattle.tnc_ports.specs.SampledRun.{IsCutTurn, IsCutInServing, AreTurns, Outside, PortsTell, PortsStay, key_failed}
 use Rattle.tnc_ports.specs.SampledRun.{IsWhole, IsCut, AllIsWrittenAsTold, PartIsWritten}
-use Rattle.tnc_ports.specs.SampledWrites.{Stream, ReportsMore, WritesMore}
+use Rattle.tnc_ports.specs.SampledWrites.{ReportsMore, WritesMore}
 
 -- the hosts' side stands for the hosts, and all that it reported is put to the report
 abbrev pub Keeps : HeldHosts → Hosts → Type 0
@@ -55,7 +56,7 @@ pub record From : Type 0 where
 
 -- An output that told so many octets at first. All samples so far are in it as long as no write has failed, and as long
 -- as the key was not told of one that has. All is in it that there was to write when the key was last told that none has.
-pub record IsOutputSince (start : ℕ) (key : Option KeyWords) (failed : Bool) (live : Live) (output : Stream)
+pub record IsOutputSince (start : ℕ) (key : Option KeyWords) (failed : Bool) (live : Live) (output : SinkTold)
     : Type 0 where
   pub out : List ℕ
   pub is : output.written ≡ Some out
@@ -66,13 +67,13 @@ pub record IsOutputSince (start : ℕ) (key : Option KeyWords) (failed : Bool) (
   pub whole : start + live.whole.octets ≤ length out
 
 -- and a report
-pub record IsReportSince (start : ℕ) (failed : Bool) (live : Live) (report : Stream) : Type 0 where
+pub record IsReportSince (start : ℕ) (failed : Bool) (live : Live) (report : SinkTold) : Type 0 where
   pub out : List ℕ
   pub is : report.written ≡ Some out
   pub kept : failed ≡ false → length out ≡ start + length (report_text live.hosts.report)
   pub whole : start + length (report_text (take live.whole.lines live.hosts.report)) ≤ length out
 
-pub record IsWrittenSince (from : From) (key : Option KeyWords) (failed : Bool) (live : Live) (output report : Stream)
+pub record IsWrittenSince (from : From) (key : Option KeyWords) (failed : Bool) (live : Live) (output report : SinkTold)
     : Type 0 where
   pub outputs : (start : ℕ) → from.output ≡ Some start → IsOutputSince start key failed live output
   pub reports : (start : ℕ) → from.report ≡ Some start → IsReportSince start failed live report
@@ -87,7 +88,7 @@ LineStands from (Some key) live line =
     × CountsIf (has_failed live.keyed) from.line.faults line.faults
 
 -- the key of a station since the run began
-pub record KeyedSince (from : From) (turning : Turning) (live : Live) (output report : Stream) (line : LineTold)
+pub record KeyedSince (from : From) (turning : Turning) (live : Live) (output report : SinkTold) (line : LineTold)
     : Type 0 where
   pub stands : KeyStands turning.words.key turning.key live.keyed
   pub untold : turning.failed ≡ false → key_failed turning.words.key live ≡ false
@@ -105,14 +106,14 @@ pub record StandsForLive (turning : Turning) (len : ℕ) (receiver : LiveReceive
 
 -- ---- frames
 
-pub record HearsFrame (octets : List ℕ) (before after : Turning) (hosts : Hosts) (report report' : Stream)
+pub record HearsFrame (octets : List ℕ) (before after : Turning) (hosts : Hosts) (report report' : SinkTold)
     : Type 0 where
   pub next : Hosts
   pub heard : IsFrameHeard before.words.monitor octets hosts next
   pub keeps : Keeps after.hosts next
   pub writes : ReportsMore before.failed after.failed hosts next report report'
 
-pub record HearsFrames (items : List Candidate) (before after : Turning) (hosts : Hosts) (report report' : Stream)
+pub record HearsFrames (items : List Candidate) (before after : Turning) (hosts : Hosts) (report report' : SinkTold)
     : Type 0 where
   pub next : Hosts
   pub heard : AreHeard before.words.monitor items hosts next
@@ -120,7 +121,7 @@ pub record HearsFrames (items : List Candidate) (before after : Turning) (hosts 
   pub writes : ReportsMore before.failed after.failed hosts next report report'
 
 -- the first of them, whatever is kept
-pub record HearsSome (items : List Candidate) (before after : Turning) (hosts : Hosts) (report report' : Stream)
+pub record HearsSome (items : List Candidate) (before after : Turning) (hosts : Hosts) (report report' : SinkTold)
     : Type 0 where
   pub first : List Candidate
   pub others : List Candidate
@@ -159,7 +160,7 @@ IsReleasedSince from None live line = line ≡ from.line
 IsReleasedSince from (Some key) live line = ReleasedSince from key live line
 
 -- what the key did in its turn
-pub record TurnsTheKey (from : From) (before after : Turning) (live : Live) (output report report' : Stream)
+pub record TurnsTheKey (from : From) (before after : Turning) (live : Live) (output report report' : SinkTold)
     (line' : LineTold) : Type 0 where
   pub next : Live
   pub turn : IsKeyTurn before.words live next
@@ -171,7 +172,7 @@ pub record TurnsTheKey (from : From) (before after : Turning) (live : Live) (out
 
 -- so many ticks, whatever is kept
 pub record Ticks (from : From) (busy : Bool) (count len : ℕ) (before after : Turning) (live : Live)
-    (output output' report report' : Stream) (line' : LineTold) : Type 0 where
+    (output output' report report' : SinkTold) (line' : LineTold) : Type 0 where
   pub next : Live
   pub ticked : AreTicked before.words busy count live next
   pub key : KeyedSince from after next output' report' line'
@@ -179,7 +180,7 @@ pub record Ticks (from : From) (busy : Bool) (count len : ℕ) (before after : T
   pub measured : HasMeasured len after.meter next
 
 pub record TicksAll (from : From) (busy : Bool) (count len : ℕ) (before after : Turning) (live : Live)
-    (output output' report report' : Stream) (line' : LineTold) : Type 0 where
+    (output output' report report' : SinkTold) (line' : LineTold) : Type 0 where
   pub next : Live
   pub ticked : AreTicked before.words busy count live next
   pub key : KeyedSince from after next output' report' line'
@@ -190,7 +191,7 @@ pub record TicksAll (from : From) (busy : Bool) (count len : ℕ) (before after 
 
 -- ---- hosts
 
-pub record ServesAll (before after : Turning) (hosts : Hosts) (report report' : Stream) (told told' : PortsTold)
+pub record ServesAll (before after : Turning) (hosts : Hosts) (report report' : SinkTold) (told told' : PortsTold)
     : Type 0 where
   pub asked : Asked
   pub next : Hosts
@@ -202,7 +203,7 @@ pub record ServesAll (before after : Turning) (hosts : Hosts) (report report' : 
 -- ---- reading
 
 pub record Reads (ended : Bool) (least : ℕ) (items : List Candidate) (before after : Turning) (len : ℕ)
-    (receiver : LiveReceiver) (live : Live) (report report' : Stream) : Type 0 where
+    (receiver : LiveReceiver) (live : Live) (report report' : SinkTold) : Type 0 where
   pub read : Live
   pub reads : LanesReadOn before.words ended live read
   pub due : AreDueBy before.words.listening ended live.lanes read.lanes items
@@ -221,7 +222,7 @@ pub record Reads (ended : Bool) (least : ℕ) (items : List Candidate) (before a
 -- All of a turn that is not for hosts. The samples of its ticks are handed to the output here, before the ports are
 -- asked anything.
 pub record Makes (from : From) (ended : Bool) (before after : Turning) (len : ℕ) (receiver : LiveReceiver) (live : Live)
-    (output output' report report' : Stream) (line' : LineTold) : Type 0 where
+    (output output' report report' : SinkTold) (line' : LineTold) : Type 0 where
   pub made : Live
   pub makes : MakesAll before.words ended live made
   pub lanes : answers_in len receiver ≡ made.lanes
@@ -236,11 +237,11 @@ pub record Makes (from : From) (ended : Bool) (before after : Turning) (len : �
   pub writes : WritesMore before.failed after.failed live made output output' report report'
 
 pub record Turns (from : From) (ended : Bool) (before after : Turning) (len : ℕ) (receiver : LiveReceiver) (live : Live)
-    (output output' report report' : Stream) (told told' : PortsTold) (line' : LineTold) : Type 0 where
+    (output output' report report' : SinkTold) (told told' : PortsTold) (line' : LineTold) : Type 0 where
   -- what is kept after the part that is not for hosts, and the report then: it has written all that it had to, and
   -- only then the part for hosts asks the ports
   pub between : Turning
-  pub reported : Stream
+  pub reported : SinkTold
   pub makes : Makes from ended before between len receiver live output output' report reported line'
   pub serves : ServesAll between after makes.made.hosts reported report' told told'
   pub next : Live
@@ -256,7 +257,7 @@ pub record Turns (from : From) (ended : Bool) (before after : Turning) (len : �
   pub tells : IsAsked asked told told'
 
 pub record IsCutOff (from : From) (before after : Turning) (len : ℕ) (receiver : LiveReceiver) (live : Live)
-    (output output' report report' : Stream) (told told' : PortsTold) (line' : LineTold) : Type 0 where
+    (output output' report report' : SinkTold) (told told' : PortsTold) (line' : LineTold) : Type 0 where
   pub next : Live
   pub cut : IsCutTurn before.words live next
   pub lanes : answers_in len receiver ≡ next.lanes
@@ -270,17 +271,11 @@ pub record IsCutOff (from : From) (before after : Turning) (len : ℕ) (receiver
 
 -- ---- all turns so far
 
-abbrev pub output_of : Outside → Stream
-output_of o = record { written = o.output; faults = o.output_faults }
-
-abbrev pub report_of : Outside → Stream
-report_of o = record { written = o.report; faults = o.report_faults }
-
 -- where the outside stood when a run began
 abbrev pub from_of : Outside → From
 from_of start = record {
-  output = option_map (λ out. length out) start.output;
-  report = option_map (λ out. length out) start.report;
+  output = option_map (λ out. length out) start.output.written;
+  report = option_map (λ out. length out) start.report.written;
   line = start.line;
 }
 
@@ -292,9 +287,9 @@ pub record Runs (words : ServeWords) (turning : Turning) (len : ℕ) (receiver :
   pub turns : AreTurns words count (new_live words) live
   pub stands : StandsForLive turning len receiver live
   pub words_kept : turning.words ≡ words
-  pub key : KeyedSince (from_of start) turning live (output_of now) (report_of now) now.line
-  pub writes : WritesMore false turning.failed (new_live words) live (output_of start) (output_of now) (report_of start)
-      (report_of now)
+  pub key : KeyedSince (from_of start) turning live now.output now.report now.line
+  pub writes : WritesMore false turning.failed (new_live words) live start.output now.output start.report
+      now.report
   pub told : PortsTell live.asked start now
   pub stay : PortsStay start now
 
@@ -303,7 +298,7 @@ pub record Runs (words : ServeWords) (turning : Turning) (len : ℕ) (receiver :
 -- the loop by how it ends, with a key that still stands for what it did
 pub record IsRunOut (words : ServeWords) (live : Live) (turning : Turning) (start now : Outside) : Type 0 where
   pub words_kept : turning.words ≡ words
-  pub key : KeyedSince (from_of start) turning live (output_of now) (report_of now) now.line
+  pub key : KeyedSince (from_of start) turning live now.output now.report now.line
 
 abbrev pub RunsOut : ServeWords → LoopEnd → List (List Got) → Turning → Outside → Outside → Type 0
 RunsOut words Done answers turning start now =

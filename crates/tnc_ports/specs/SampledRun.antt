@@ -15,7 +15,7 @@ use Rattle.key_port.specs.KeyLines.{KeyLine, LineTold}
 use Rattle.key_port.specs.KeyTasks.{CountsIf}
 use Rattle.sound_rate.specs.Rates.{written_at}
 use Rattle.tnc_base.specs.Faults.{HasRisen}
-use Rattle.tnc_base.specs.Streams.{WrotePart}
+use Rattle.tnc_base.specs.Streams.{SinkTold, WrotePart}
 use Rattle.tnc_ports.specs.declared.serve_words.KeyWords.{KeyWords}
 use Rattle.tnc_ports.specs.declared.serve_words.ServeWords.{ServeWords}
 use Rattle.tnc_ports.specs.declared.looping.LoopEnd.{LoopEnd}
@@ -93,25 +93,21 @@ pub record IsCutRun (words : ServeWords) (live : Live) : Type 0 where
 
 -- ---- what the outside tells
 
--- what the ports, the key's line, the output and the report tell of the calls so far, and how often they failed
+-- what the ports, the key's line, the output and the report tell of the calls so far
 pub record Outside : Type 0 where
   pub ports : PortsTold
   pub line : LineTold
-  pub output : Option (List ℕ)
-  pub output_faults : ℕ
-  pub report : Option (List ℕ)
-  pub report_faults : ℕ
+  pub output : SinkTold
+  pub report : SinkTold
 
-abbrev pub outside_by : {P K O E : Type 0} → (P → PortsTold) → (K → LineTold) → (O → Option (List ℕ)) → (O → ℕ)
-    → (E → Option (List ℕ)) → (E → ℕ) → P → K → O → E → Outside
-outside_by ports_told line_told written faults reported report_faults ports key output report =
+abbrev pub outside_by : {P K O E : Type 0} → (P → PortsTold) → (K → LineTold) → (O → SinkTold) → (E → SinkTold) → P → K
+    → O → E → Outside
+outside_by ports_told line_told output_told report_told ports key output report =
     record {
       ports = ports_told ports;
       line = line_told key;
-      output = written output;
-      output_faults = faults output;
-      report = reported report;
-      report_faults = report_faults report;
+      output = output_told output;
+      report = report_told report;
     }
 
 -- what is told grows by these
@@ -145,9 +141,9 @@ pub record PortsStay (before after : Outside) : Type 0 where
 -- All that there was to write when the key was last told that no write has failed is written. So a write that fails is
 -- told to the key after the samples of the tick in which it fails, or of the next one.
 pub record WroteWhole (live : Live) (before after : Outside) : Type 0 where
-  pub output : (was now : List ℕ) → before.output ≡ Some was → after.output ≡ Some now
+  pub output : (was now : List ℕ) → before.output.written ≡ Some was → after.output.written ≡ Some now
       → length was + live.whole.octets ≤ length now
-  pub report : (was now : List ℕ) → before.report ≡ Some was → after.report ≡ Some now
+  pub report : (was now : List ℕ) → before.report.written ≡ Some was → after.report.written ≡ Some now
       → length was + length (report_text (take live.whole.lines live.hosts.report)) ≤ length now
 
 -- At every end of the run the key was released. The connections on its line are exactly those of the events, and a
@@ -155,7 +151,7 @@ pub record WroteWhole (live : Live) (before after : Outside) : Type 0 where
 pub record KeyIsReleased (key : KeyWords) (live : Live) (before after : Outside) : Type 0 where
   pub keyed : List KeyEvent
   pub releases : IsReleased key.words (octets_sent live) live.keyed keyed
-  pub lines : (was : List KeyLine) (out : List ℕ) → before.line.lines ≡ Some was → before.output ≡ Some out
+  pub lines : (was : List KeyLine) (out : List ℕ) → before.line.lines ≡ Some was → before.output.written ≡ Some out
       → after.line.lines ≡ Some (lines_of key.port (length out) was keyed)
   pub faults : CountsIf (has_failed keyed) before.line.faults after.line.faults
   pub whole : WroteWhole live before after
@@ -177,16 +173,18 @@ pub record AreSamplesSent (words : ServeWords) (live : Live) : Type 0 where
 
 -- The output is what was sent for the ticks, the report is its lines, and no write failed.
 pub record AllIsWritten (live : Live) (before after : Outside) : Type 0 where
-  pub output : GrowsBy (output_octets live.sent) before.output after.output
-  pub report : GrowsBy (report_text live.hosts.report) before.report after.report
-  pub no_output_fault : after.output_faults ≡ before.output_faults
-  pub no_report_fault : after.report_faults ≡ before.report_faults
+  pub output : GrowsBy (output_octets live.sent) before.output.written after.output.written
+  pub report : GrowsBy (report_text live.hosts.report) before.report.written after.report.written
+  pub no_output_fault : after.output.faults ≡ before.output.faults
+  pub no_report_fault : after.report.faults ≡ before.report.faults
 
 -- A write failed, and the output and the report are first parts of these.
 pub record PartIsWritten (live : Live) (before after : Outside) : Type 0 where
-  pub output : (was : List ℕ) → before.output ≡ Some was → WrotePart was (output_octets live.sent) after.output
-  pub report : (was : List ℕ) → before.report ≡ Some was → WrotePart was (report_text live.hosts.report) after.report
-  pub failed : HasRisen before.output_faults after.output_faults ⊎ HasRisen before.report_faults after.report_faults
+  pub output : (was : List ℕ) → before.output.written ≡ Some was → WrotePart was
+      (output_octets live.sent) after.output.written
+  pub report : (was : List ℕ) → before.report.written ≡ Some was → WrotePart was
+      (report_text live.hosts.report) after.report.written
+  pub failed : HasRisen before.output.faults after.output.faults ⊎ HasRisen before.report.faults after.report.faults
 
 -- ---- the loop
 

@@ -5,6 +5,7 @@ use Rattle.sample_ring.specs.declared.got.Got.{Got}
 use Rattle.sample_ring.specs.declared.view.Track.{Track}
 use Rattle.sample_ring.specs.Record.{StandsIn, answer}
 use Rattle.slicer_bank.specs.RingTurns.{MeetsEnd}
+use Rattle.tnc_base.specs.Streams.{SourceTold}
 use Rattle.tnc_base.specs.Faults.{HasRisen}
 use Rattle.tnc_ports.specs.declared.pumping.PumpEnd.{PumpEnd}
 use Rattle.tnc_ports.specs.declared.pumping.PumpEnd.TheVariants.{InputEnd, ReadFault as PumpFailed}
@@ -17,7 +18,7 @@ use Rattle.tnc_ports.specs.declared.looping.LoopEnd.{LoopEnd}
 use Rattle.tnc_ports.specs.declared.looping.LoopEnd.TheVariants.{Done as LoopDone, Memory as LoopMemory}
 use Rattle.tnc_ports.specs.declared.looping.LoopEnd.TheVariants.{WriteFault as LoopFault}
 use Rattle.tnc_ports.specs.Pumped.{IsPumped}
-pub use Rattle.tnc_ports.specs.PumpRun.{InputSide, input_by, ReadFaults}
+pub use Rattle.tnc_ports.specs.PumpRun.{ReadFaults}
 use Rattle.tnc_ports.specs.SampledRun.{Outside, GrowsBy, IsLooped}
 
 -- ---- what the readers were answered, and what was published
@@ -57,9 +58,7 @@ pub record OnlyListens (before after : Outside) : Type 0 where
   pub faults : before.ports.faults ≤ after.ports.faults
   pub line : after.line ≡ before.line
   pub output : after.output ≡ before.output
-  pub output_faults : after.output_faults ≡ before.output_faults
   pub report : after.report ≡ before.report
-  pub report_faults : after.report_faults ≡ before.report_faults
 
 -- the ports of the words are opened
 pub record HasOpened (words : ServeWords) (before after : Outside) : Type 0 where
@@ -74,7 +73,7 @@ pub record HasNoPort (before after : Outside) : Type 0 where
 
 -- The ports are opened. The pump publishes the modem's samples of what it reads of the input, and beside it the loop's
 -- readers read what is published.
-pub record HasServed (words : ServeWords) (end : ServeEnd) (input left : InputSide) (before after : Outside)
+pub record HasServed (words : ServeWords) (end : ServeEnd) (input left : SourceTold) (before after : Outside)
     : Type 0 where
   pub open_ports : Outside
   pub opens : HasOpened words before open_ports
@@ -89,16 +88,16 @@ pub record HasServed (words : ServeWords) (end : ServeEnd) (input left : InputSi
   pub ends : end ≡ end_of loop pump
 
 -- without memory for the ring nothing is read
-pub record HasNoRing (words : ServeWords) (input left : InputSide) (before after : Outside) : Type 0 where
+pub record HasNoRing (words : ServeWords) (input left : SourceTold) (before after : Outside) : Type 0 where
   pub opens : HasOpened words before after
   pub unread : left ≡ input
 
 -- Without a thread for the pump nothing is read, and no turn is made.
-pub record HasNoThread (words : ServeWords) (input left : InputSide) (before after : Outside) : Type 0 where
+pub record HasNoThread (words : ServeWords) (input left : SourceTold) (before after : Outside) : Type 0 where
   pub opens : HasOpened words before after
   pub unread : left ≡ input
 
-abbrev pub IsServed : ServeWords → ServeEnd → InputSide → InputSide → Outside → Outside → Type 0
+abbrev pub IsServed : ServeWords → ServeEnd → SourceTold → SourceTold → Outside → Outside → Type 0
 IsServed words Done input left before after = HasServed words Done input left before after
 IsServed words TooLong input left before after = HasServed words TooLong input left before after
 IsServed words Memory input left before after =

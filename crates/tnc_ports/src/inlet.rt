@@ -6,7 +6,7 @@ ghost use Rattle.std.specs.Prelude.{take, IfOk, OnErr};
 ghost use Rattle.atomic_table.specs.Seated.{TableId};
 ghost use Rattle.sample_ring.specs.Ends.{ring_id, writer_ring, published_by};
 ghost use Rattle.tnc_base.specs.Faults.{HasRisen};
-ghost use Rattle.tnc_base.specs.Streams.{Gives};
+ghost use Rattle.tnc_base.specs.Streams.{SourceTold, Gives};
 ghost use Rattle.tnc_ports.specs.Inlet.{Step};
 ghost use Rattle.tnc_ports.specs.Inlet.Step.{Reads, Publishes};
 
@@ -27,21 +27,18 @@ pub trait Inlet {
     /// What was done so far, in order, if the object tells it.
     ghost steps: { Self → Option (List Step) };
 
-    /// The octets that are left, if the object tells them.
-    ghost left: { Self → Option (List ℕ) };
+    /// The octets that are left, if the object tells them, and how often a read has failed.
+    ghost told: { Self → SourceTold };
 
     /// All samples that were published.
     ghost published: { Self → List ℤ };
 
-    /// How often a read has failed.
-    ghost faults: { Self → ℕ };
-
     /// Reads the first of the octets that are left and answers how many. 0 means that none are left.
     fn read(&mut self, buffer: &mut [u8]) -> Result<usize, Failed>
         ensures bound { IfOk result (λ count. count ≤ length buffer.new) }
-        ensures gives { (octets : List ℕ) → left self.old ≡ Some octets
-            → IfOk result (λ count. Gives octets (left self.new) buffer.new count) }
-        ensures kept { OnErr result (left self.new ≡ left self.old) }
+        ensures gives { (octets : List ℕ) → (told self.old).left ≡ Some octets
+            → IfOk result (λ count. Gives octets (told self.new).left buffer.new count) }
+        ensures kept { OnErr result ((told self.new).left ≡ (told self.old).left) }
         ensures input { input self.new ≡ input self.old }
         ensures output { output self.new ≡ output self.old }
         ensures ring { ring self.new ≡ ring self.old }
@@ -49,9 +46,9 @@ pub trait Inlet {
         ensures told { (before : List Step) → steps self.old ≡ Some before
             → IfOk result (λ count. steps self.new ≡ Some (before ++ Reads (take count buffer.new) ∷ [])) }
         ensures untold { OnErr result (steps self.new ≡ steps self.old) }
-        ensures later { faults self.old ≤ faults self.new }
-        ensures failed { OnErr result (HasRisen (faults self.old) (faults self.new)) }
-        ensures faultless { IfOk result (λ _. faults self.new ≡ faults self.old) };
+        ensures later { (told self.old).faults ≤ (told self.new).faults }
+        ensures failed { OnErr result (HasRisen (told self.old).faults (told self.new).faults) }
+        ensures faultless { IfOk result (λ _. (told self.new).faults ≡ (told self.old).faults) };
 
     /// Publishes a sample.
     fn publish(&mut self, sample: i16)
@@ -62,8 +59,7 @@ pub trait Inlet {
         ensures published { published self.new ≡ published self.old ++ sample ∷ [] }
         ensures told { (before : List Step) → steps self.old ≡ Some before
             → steps self.new ≡ Some (before ++ Publishes sample ∷ []) }
-        ensures left { left self.new ≡ left self.old }
-        ensures faults { faults self.new ≡ faults self.old };
+        ensures source { told self.new ≡ told self.old };
 }
 
 /// An input, and a ring with its writer.
@@ -83,11 +79,9 @@ impl<I: Source> Inlet for RingInlet<'_, '_, '_, I> {
 
     ghost steps = { λ _. None };
 
-    ghost left = { λ s. I.left s.source.now };
+    ghost told = { λ s. I.told s.source.now };
 
     ghost published = { λ s. published_by s.writer.now };
-
-    ghost faults = { λ s. I.faults s.source.now };
 
     fn read(&mut self, buffer: &mut [u8]) -> Result<usize, Failed> {
         self.source.read(buffer)

@@ -5,7 +5,7 @@ ghost use Rattle.key_port.specs.KeyEvents.{ready_report, lost_report, tick_repor
 ghost use Rattle.key_port.specs.KeySides.{reports_in};
 ghost use Rattle.tnc_ports.specs.KeyTurns.{key_line};
 ghost use Rattle.tnc_ports.specs.ReportText.{ended_line, report_text};
-ghost use Rattle.tnc_ports.specs.SampledWrites.{Puts, stream_of};
+ghost use Rattle.tnc_ports.specs.SampledWrites.{Puts};
 
 use crate::writing::put;
 use key_port::KeyReports;
@@ -15,7 +15,7 @@ use tnc_base::Sink;
 /// Writes what is reported of a call of the key's machine, unless a write failed before.
 pub(crate) fn put_reports<E: Sink>(report: &mut E, failed: &mut bool, told: KeyReports)
     ensures { Puts failed.old failed.new (report_text (map key_line (reports_in told)))
-        (stream_of E.written E.faults report.old) (stream_of E.written E.faults report.new) }
+        (E.told report.old) (E.told report.new) }
 {
     put_ready(report, failed, told.ready);
     put_lost(report, failed, told.lost);
@@ -25,7 +25,7 @@ pub(crate) fn put_reports<E: Sink>(report: &mut E, failed: &mut bool, told: KeyR
 
 fn put_ready<E: Sink>(report: &mut E, failed: &mut bool, ready: bool)
     ensures { Puts failed.old failed.new (report_text (map key_line (ready_report ready)))
-        (stream_of E.written E.faults report.old) (stream_of E.written E.faults report.new) }
+        (E.told report.old) (E.told report.new) }
 {
     if ready {
         put_line(report, failed, Report::Ready);
@@ -34,7 +34,7 @@ fn put_ready<E: Sink>(report: &mut E, failed: &mut bool, ready: bool)
 
 fn put_lost<E: Sink>(report: &mut E, failed: &mut bool, lost: Option<Why>)
     ensures { Puts failed.old failed.new (report_text (map key_line (lost_report lost)))
-        (stream_of E.written E.faults report.old) (stream_of E.written E.faults report.new) }
+        (E.told report.old) (E.told report.new) }
 {
     if let Some(why) = lost {
         put_line(report, failed, Report::Lost(why));
@@ -43,7 +43,7 @@ fn put_lost<E: Sink>(report: &mut E, failed: &mut bool, lost: Option<Why>)
 
 fn put_if<E: Sink>(report: &mut E, failed: &mut bool, told: Option<Report>)
     ensures { Puts failed.old failed.new (report_text (map key_line (tick_report told)))
-        (stream_of E.written E.faults report.old) (stream_of E.written E.faults report.new) }
+        (E.told report.old) (E.told report.new) }
 {
     if let Some(line) = told {
         put_line(report, failed, line);
@@ -52,8 +52,7 @@ fn put_if<E: Sink>(report: &mut E, failed: &mut bool, told: Option<Report>)
 
 /// Writes a line, and the line feed that ends it.
 fn put_line<E: Sink>(report: &mut E, failed: &mut bool, line: Report)
-    ensures { Puts failed.old failed.new (ended_line (key_line line))
-        (stream_of E.written E.faults report.old) (stream_of E.written E.faults report.new) }
+    ensures { Puts failed.old failed.new (ended_line (key_line line)) (E.told report.old) (E.told report.new) }
 {
     put(report, failed, line.text().as_slice());
     put(report, failed, b"\n");

@@ -2,6 +2,7 @@
 ghost use Rattle.std.specs.Prelude.{◌≡◌, ◌↔◌, ℕ, Bool, true, false, List, Option, Some, None};
 ghost use Rattle.key_port.specs.KeyLines.{KeyLine, is_open};
 ghost use Rattle.sample_ring.specs.declared.got.Got.{Got};
+ghost use Rattle.tnc_base.specs.Streams.{SourceTold};
 ghost use Rattle.tnc_ports.specs.declared.looping.LoopEnd.{LoopEnd};
 ghost use Rattle.tnc_ports.specs.declared.serve_words.KeyWords.{KeyWords};
 ghost use Rattle.tnc_ports.specs.declared.serve_words.ServeWords.{ServeWords};
@@ -11,7 +12,7 @@ ghost use Rattle.tnc_ports.specs.KeyRuns.{IsKeyedRun};
 ghost use Rattle.tnc_ports.specs.RunTicks.{ticks_served};
 ghost use Rattle.tnc_ports.specs.Sampled.{Live, IsTicked, IsKeyTurn};
 ghost use Rattle.tnc_ports.specs.SampledRun.{Outside, IsLooped};
-ghost use Rattle.tnc_ports.specs.ServeRun.{InputSide, IsServed};
+ghost use Rattle.tnc_ports.specs.ServeRun.{IsServed};
 ghost use Rattle.tnc_ports.specs.StepShuts.{StepsAreHeard};
 ghost use Rattle.tnc_ports.specs.Unkeyed.{IsPlainTick};
 
@@ -44,7 +45,7 @@ pub fn a_transmission_begins_keyed()
 pub fn the_key_is_kept_within_its_limit()
     ensures { (words : ServeWords) (key : KeyWords) (end : LoopEnd) (answers : List (List Got))
         (before after : Outside) (was : List KeyLine) (out : List ℕ) → words.key ≡ Some key
-        → IsLooped words end answers before after → before.line.lines ≡ Some was → before.output ≡ Some out
+        → IsLooped words end answers before after → before.line.lines ≡ Some was → before.output.written ≡ Some out
         → is_open was ≡ false → IsKeptWithin key was out after }
 {}
 
@@ -53,22 +54,22 @@ pub fn the_key_is_kept_within_its_limit()
 pub fn the_key_is_released_at_every_end()
     ensures { (words : ServeWords) (key : KeyWords) (end : LoopEnd) (answers : List (List Got))
         (before after : Outside) (was : List KeyLine) (out : List ℕ) → words.key ≡ Some key
-        → IsLooped words end answers before after → before.line.lines ≡ Some was → before.output ≡ Some out
+        → IsLooped words end answers before after → before.line.lines ≡ Some was → before.output.written ≡ Some out
         → is_open was ≡ false → EndsReleased after }
 {}
 
 /// However a served station with a key ends, its run is a keyed one, by the ticks that the run made: no sound without a
 /// key, nothing begins while it is refused, it is never on for more than 9000 ticks, and it is released at the end.
 pub fn a_served_run_is_keyed()
-    ensures { (words : ServeWords) (key : KeyWords) (end : ServeEnd) (input left : InputSide)
+    ensures { (words : ServeWords) (key : KeyWords) (end : ServeEnd) (input left : SourceTold)
         (before after : Outside) (was : List KeyLine) (out : List ℕ) → words.key ≡ Some key
         → (served : IsServed words end input left before after) → before.line.lines ≡ Some was
-        → before.output ≡ Some out → is_open was ≡ false
+        → before.output.written ≡ Some out → is_open was ≡ false
         → IsKeyedRun words key was out after (ticks_served words end input left before after served) }
 {}
 
 /// A served station without a key leaves the key's line as it was.
 pub fn no_key_leaves_the_line()
-    ensures { (words : ServeWords) (end : ServeEnd) (input left : InputSide) (before after : Outside)
+    ensures { (words : ServeWords) (end : ServeEnd) (input left : SourceTold) (before after : Outside)
         → words.key ≡ None → IsServed words end input left before after → after.line ≡ before.line }
 {}

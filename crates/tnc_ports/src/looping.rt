@@ -57,8 +57,8 @@ pub fn station_loop<R: Threads + Wait + Net + Sync, O: Sink, E: Sink, N: Ports, 
     ensures readers { All (λ reader. reader_ring reader ≡ ring_id ring.now) (readers_in receiver.new) }
     ensures dials { (N.told ports.new).dials ≡ (N.told ports.old).dials }
     ensures looped { IsLooped words.now result (answers_if (ring_len ring.now) receiver.new sound.new)
-        (outside_by N.told K.told O.written O.faults E.written E.faults ports.old key.old output.old report.old)
-        (outside_by N.told K.told O.written O.faults E.written E.faults ports.new key.new output.new report.new) }
+        (outside_by N.told K.told O.told E.told ports.old key.old output.old report.old)
+        (outside_by N.told K.told O.told E.told ports.new key.new output.new report.new) }
 {
     let mut side = key_of(words.key);
     let Ok(hosts) = HostSide::new(alloc, words.config, words.seed) else {
@@ -110,8 +110,8 @@ fn run<R: Threads + Wait + Net + Sync, O: Sink, E: Sink, N: Ports, K: KeyPort<O>
     ensures meter { reader_ring turning.new.meter.reader ≡ ring_id ring.now }
     ensures run { RunsOut turning.old.words result
         (answers_with (ring_len ring.now) receiver.new turning.new.meter.reader) turning.new
-        (outside_by N.told K.told O.written O.faults E.written E.faults ports.old key.old output.old report.old)
-        (outside_by N.told K.told O.written O.faults E.written E.faults ports.new key.new output.new report.new) }
+        (outside_by N.told K.told O.told E.told ports.old key.old output.old report.old)
+        (outside_by N.told K.told O.told E.told ports.new key.new output.new report.new) }
 {
     'turns: for _ in rt.forever() {
         match turning.turn(rt, ring, receiver, output, report, ports, key) {

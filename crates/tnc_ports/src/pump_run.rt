@@ -4,7 +4,8 @@ ghost use Rattle.std.specs.Thread.{IsSync};
 ghost use Rattle.sample_ring.specs.Ends.{ring_id, writer_ring, published_by};
 ghost use Rattle.sample_ring.specs.declared.ring.Ring.{Ring};
 ghost use Rattle.sound_rate.specs.declared.rate.Rate.{Rate};
-ghost use Rattle.tnc_ports.specs.PumpRun.{InputSide, input_by, Pumps};
+ghost use Rattle.tnc_base.specs.Streams.{SourceTold};
+ghost use Rattle.tnc_ports.specs.PumpRun.{Pumps};
 ghost use Rattle.tnc_ports.specs.SampledPump.{IsWriting, IsPumpedIf, HasRun};
 ghost use Rattle.tnc_ports.specs.Starts.{CountsUnless, lock_of};
 
@@ -40,9 +41,8 @@ pub fn pump_beside<R: Threads + Wait + Sync, I: Source + Send, W: Spawner, J: Fn
     requires ring { writer_ring writer ≡ ring_id ring.now }
     requires new { published_by writer ≡ [] }
     requires job { (begins : Bool) → J.pre job.old begins }
-    ensures pumped { IfSome result (λ pumped. Pumps rate ring.now pumped (input_by I.left I.faults input.old)
-        (input_by I.left I.faults input.new)) }
-    ensures unread { IsNone result → input_by I.left I.faults input.new ≡ input_by I.left I.faults input.old }
+    ensures pumped { IfSome result (λ pumped. Pumps rate ring.now pumped (I.told input.old) (I.told input.new)) }
+    ensures unread { IsNone result → I.told input.new ≡ I.told input.old }
     ensures told { J.step job.old (is_some result) tt job.new }
     ensures counted { CountsUnless (is_some result) (W.faults spawner.old) (W.faults spawner.new) }
 {
@@ -77,8 +77,7 @@ fn run<'a, R: Threads + Wait + Sync, I: Source + Send, W: Spawner, J: FnMut(bool
 )
     requires writing { IsWriting ring.now pumping.old }
     requires job { (begins : Bool) → J.pre job.old begins }
-    ensures pumped { HasRun (lock_of start.now) rate ring.now pumping.new (input_by I.left I.faults input.old)
-        (input_by I.left I.faults input.new) }
+    ensures pumped { HasRun (lock_of start.now) rate ring.now pumping.new (I.told input.old) (I.told input.new) }
     ensures told { IfSome told.new (λ token. (token.of ≡ lock_of start.now)
         × J.step job.old token.value tt job.new
         × CountsUnless token.value (W.faults spawner.old) (W.faults spawner.new)) }
@@ -91,7 +90,7 @@ fn run<'a, R: Threads + Wait + Sync, I: Source + Send, W: Spawner, J: FnMut(bool
         &mut ||
             requires { IsSync R.row × IsWriting ring.now pumping.now }
             ensures { HasRun (lock_of start.entry.now) rate ring.entry.now pumping.exit.now
-                (input_by I.left I.faults input.entry.now) (input_by I.left I.faults input.exit.now) }
+                (I.told input.entry.now) (I.told input.exit.now) }
         { pump_once(rt, ring, rate, start, pumping, input) },
         &mut ||
             requires { IsSync R.row × ((begins : Bool) → J.pre job.now begins) }
@@ -128,8 +127,7 @@ fn pump_once<'a, R: Wait, I: Source>(
     input: &mut I,
 )
     requires { IsWriting ring.now pumping.old }
-    ensures { HasRun (lock_of start.now) rate ring.now pumping.new (input_by I.left I.faults input.old)
-        (input_by I.left I.faults input.new) }
+    ensures { HasRun (lock_of start.now) rate ring.now pumping.new (I.told input.old) (I.told input.new) }
 {
     match mem::replace(pumping, Pumping::Nothing) {
         Pumping::Before(writer) => {
@@ -152,8 +150,7 @@ fn pump_if<I: Source>(
 ) -> Option<Pumped>
     requires ring { writer_ring writer ≡ ring_id ring.now }
     requires new { published_by writer ≡ [] }
-    ensures { IsPumpedIf begins rate ring.now result (input_by I.left I.faults input.old)
-        (input_by I.left I.faults input.new) }
+    ensures { IsPumpedIf begins rate ring.now result (I.told input.old) (I.told input.new) }
 {
     if begins {
         Some(pump(input, ring, writer, rate))
@@ -168,10 +165,10 @@ fn settle<'a>(
     pumping: Pumping<'a>,
     told: Option<OnceToken<'a, bool>>,
 ) -> Option<Pumped>
-    requires ran { (rate : Rate) × (ring : Ring) × (input : InputSide) × (left : InputSide)
+    requires ran { (rate : Rate) × (ring : Ring) × (input : SourceTold) × (left : SourceTold)
         × HasRun (lock_of start.now) rate ring pumping input left }
     requires told { IsSome told × IfSome told (λ token. token.of ≡ lock_of start.now) }
-    ensures pumped { (rate : Rate) (ring : Ring) (input left : InputSide)
+    ensures pumped { (rate : Rate) (ring : Ring) (input left : SourceTold)
         → HasRun (lock_of start.now) rate ring pumping.entry input left
         → IsPumpedIf (is_some result) rate ring result input left }
     ensures told { IfSome told.entry (λ token. token.value ≡ is_some result) }

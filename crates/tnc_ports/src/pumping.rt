@@ -51,12 +51,12 @@ pub fn pump<I: Source>(source: &mut I, ring: &Ring, writer: Writer, rate: Rate) 
     requires ring { writer_ring writer ≡ ring_id ring.now }
     requires new { published_by writer ≡ [] }
     ensures ring { done_ring result.done ≡ writer_ring writer }
-    ensures pumped { (octets : List ℕ) → I.left source.old ≡ Some octets
-        → IsPumped rate octets (I.left source.new) (all_published result.done) result.end }
+    ensures pumped { (octets : List ℕ) → (I.told source.old).left ≡ Some octets
+        → IsPumped rate octets (I.told source.new).left (all_published result.done) result.end }
     ensures count { length (all_published result.done) ≤ 2 ^ 39 }
-    ensures later { I.faults source.old ≤ I.faults source.new }
-    ensures read { result.end ≡ PumpEnd.ReadFault → HasRisen (I.faults source.old) (I.faults source.new) }
-    ensures faultless { result.end ≢ PumpEnd.ReadFault → I.faults source.new ≡ I.faults source.old }
+    ensures later { (I.told source.old).faults ≤ (I.told source.new).faults }
+    ensures read { result.end ≡ PumpEnd.ReadFault → HasRisen (I.told source.old).faults (I.told source.new).faults }
+    ensures faultless { result.end ≢ PumpEnd.ReadFault → (I.told source.new).faults ≡ (I.told source.old).faults }
 {
     let mut writer = writer;
     let end = fill(source, ring, &mut writer, rate);
@@ -71,12 +71,12 @@ fn fill<I: Source>(source: &mut I, ring: &Ring, writer: &mut Writer, rate: Rate)
     requires ring { writer_ring writer.old ≡ ring_id ring.now }
     requires new { published_by writer.old ≡ [] }
     ensures ring { writer_ring writer.new ≡ writer_ring writer.old }
-    ensures pumped { (octets : List ℕ) → I.left source.old ≡ Some octets
-        → IsPumped rate octets (I.left source.new) (published_by writer.new) result }
+    ensures pumped { (octets : List ℕ) → (I.told source.old).left ≡ Some octets
+        → IsPumped rate octets (I.told source.new).left (published_by writer.new) result }
     ensures count { length (published_by writer.new) ≤ 2 ^ 39 }
-    ensures later { I.faults source.old ≤ I.faults source.new }
-    ensures read { result ≡ PumpEnd.ReadFault → HasRisen (I.faults source.old) (I.faults source.new) }
-    ensures faultless { result ≢ PumpEnd.ReadFault → I.faults source.new ≡ I.faults source.old }
+    ensures later { (I.told source.old).faults ≤ (I.told source.new).faults }
+    ensures read { result ≡ PumpEnd.ReadFault → HasRisen (I.told source.old).faults (I.told source.new).faults }
+    ensures faultless { result ≢ PumpEnd.ReadFault → (I.told source.new).faults ≡ (I.told source.old).faults }
 {
     let mut inlet = RingInlet {
         source,
@@ -98,14 +98,14 @@ pub fn pump_inlet<T: Inlet>(inlet: &mut T, rate: Rate) -> PumpEnd
     ensures input { T.input inlet.new ≡ T.input inlet.old }
     ensures output { T.output inlet.new ≡ T.output inlet.old }
     ensures ring { T.ring inlet.new ≡ T.ring inlet.old }
-    ensures pumped { (octets : List ℕ) → T.left inlet.old ≡ Some octets
-        → IsPumped rate octets (T.left inlet.new) (T.published inlet.new) result }
+    ensures pumped { (octets : List ℕ) → (T.told inlet.old).left ≡ Some octets
+        → IsPumped rate octets (T.told inlet.new).left (T.published inlet.new) result }
     ensures pace { (before : List Step) → T.steps inlet.old ≡ Some before
         → (more : List Step) × (T.steps inlet.new ≡ Some (before ++ more)) × KeepsPace rate more }
     ensures count { length (T.published inlet.new) ≤ 2 ^ 39 }
-    ensures later { T.faults inlet.old ≤ T.faults inlet.new }
-    ensures read { result ≡ PumpEnd.ReadFault → HasRisen (T.faults inlet.old) (T.faults inlet.new) }
-    ensures faultless { result ≢ PumpEnd.ReadFault → T.faults inlet.new ≡ T.faults inlet.old }
+    ensures later { (T.told inlet.old).faults ≤ (T.told inlet.new).faults }
+    ensures read { result ≡ PumpEnd.ReadFault → HasRisen (T.told inlet.old).faults (T.told inlet.new).faults }
+    ensures faultless { result ≢ PumpEnd.ReadFault → (T.told inlet.new).faults ≡ (T.told inlet.old).faults }
 {
     let mut incoming = Incoming::new(rate);
     let end = pump_reads(inlet, &mut incoming);
@@ -120,18 +120,18 @@ fn pump_reads<T: Inlet>(inlet: &mut T, incoming: &mut Incoming) -> PumpEnd
     ensures output { T.output inlet.new ≡ T.output inlet.old }
     ensures ring { T.ring inlet.new ≡ T.ring inlet.old }
     ensures pumped { (rate : Rate) (octets : List ℕ) → HasReceived rate incoming.old []
-        → T.left inlet.old ≡ Some octets
+        → (T.told inlet.old).left ≡ Some octets
         → (low : Option ℕ) × (total : ℕ)
-        × HasPumped rate octets (T.left inlet.new) (T.published inlet.new) incoming.new low total
-        × HasStopped result (T.left inlet.new) total }
+        × HasPumped rate octets (T.told inlet.new).left (T.published inlet.new) incoming.new low total
+        × HasStopped result (T.told inlet.new).left total }
     ensures pace { (rate : Rate) (before : List Step) → HasReceived rate incoming.old [] → T.steps inlet.old ≡ Some before
         → (low : Option ℕ) × PacesOn rate before (T.steps inlet.new) (T.published inlet.new) incoming.new low }
     ensures taken { (rate : Rate) → HasReceived rate incoming.old []
         → (x : List ℤ) × IsFed rate incoming.new (T.published inlet.new) x × (2 * length x ≤ 2 ^ 40 + 1) }
     ensures room { length (T.published inlet.new) ≤ 2 ^ 40 + 1 }
-    ensures later { T.faults inlet.old ≤ T.faults inlet.new }
-    ensures read { result ≡ PumpEnd.ReadFault → HasRisen (T.faults inlet.old) (T.faults inlet.new) }
-    ensures faultless { result ≢ PumpEnd.ReadFault → T.faults inlet.new ≡ T.faults inlet.old }
+    ensures later { (T.told inlet.old).faults ≤ (T.told inlet.new).faults }
+    ensures read { result ≡ PumpEnd.ReadFault → HasRisen (T.told inlet.old).faults (T.told inlet.new).faults }
+    ensures faultless { result ≢ PumpEnd.ReadFault → (T.told inlet.new).faults ≡ (T.told inlet.old).faults }
 {
     let mut low = None;
     let mut buffer = [0; PIECE];
@@ -162,8 +162,7 @@ fn publish<T: Inlet>(inlet: &mut T, low: &mut Option<u8>, incoming: &mut Incomin
     ensures steps { (more : List ℤ) × (T.published inlet.new ≡ T.published inlet.old ++ more)
         × ((before : List Step) → T.steps inlet.old ≡ Some before
         → T.steps inlet.new ≡ Some (before ++ map Publishes more)) }
-    ensures left { T.left inlet.new ≡ T.left inlet.old }
-    ensures faults { T.faults inlet.new ≡ T.faults inlet.old }
+    ensures source { T.told inlet.new ≡ T.told inlet.old }
 {
     for octet in octets {
         push_octet(inlet, low, incoming, *octet);
@@ -183,8 +182,7 @@ fn push_octet<T: Inlet>(inlet: &mut T, low: &mut Option<u8>, incoming: &mut Inco
         × ((before : List Step) → T.steps inlet.old ≡ Some before
         → T.steps inlet.new ≡ Some (before ++ map Publishes more)) }
     ensures rest { low.new ≡ odd_after low.old octet }
-    ensures left { T.left inlet.new ≡ T.left inlet.old }
-    ensures faults { T.faults inlet.new ≡ T.faults inlet.old }
+    ensures source { T.told inlet.new ≡ T.told inlet.old }
 {
     let Some(sample) = take_octet(low, octet) else {
         return;
@@ -219,8 +217,7 @@ fn publish_rest<T: Inlet>(inlet: &mut T, incoming: &mut Incoming)
     ensures steps { (more : List ℤ) × (T.published inlet.new ≡ T.published inlet.old ++ more)
         × ((before : List Step) → T.steps inlet.old ≡ Some before
         → T.steps inlet.new ≡ Some (before ++ map Publishes more)) }
-    ensures left { T.left inlet.new ≡ T.left inlet.old }
-    ensures faults { T.faults inlet.new ≡ T.faults inlet.old }
+    ensures source { T.told inlet.new ≡ T.told inlet.old }
 {
     let mut rest = [0; 15];
     let count = incoming.finish(&mut rest);
@@ -236,8 +233,7 @@ fn publish_all<T: Inlet>(inlet: &mut T, samples: &[i16])
     ensures published { T.published inlet.new ≡ T.published inlet.old ++ samples.now }
     ensures steps { (before : List Step) → T.steps inlet.old ≡ Some before
         → T.steps inlet.new ≡ Some (before ++ map Publishes samples.now) }
-    ensures left { T.left inlet.new ≡ T.left inlet.old }
-    ensures faults { T.faults inlet.new ≡ T.faults inlet.old }
+    ensures source { T.told inlet.new ≡ T.told inlet.old }
 {
     for sample in samples {
         inlet.publish(*sample);

@@ -28,7 +28,7 @@ pub(crate) fn release_key<R: Net + Wait, O: Sink, K: KeyPort<O>>(
     key: &mut K,
 )
     ensures { (words : Option KeyWords) (octets : ℕ) (keyed : List KeyEvent) → KeyStands words side.old keyed
-        → ReleasesKey words octets (O.written output.now) keyed side.new (K.told key.old) (K.told key.new) }
+        → ReleasesKey words octets (O.told output.now).written keyed side.new (K.told key.old) (K.told key.new) }
 {
     if let Some(side) = side {
         side.release(rt, key, output);

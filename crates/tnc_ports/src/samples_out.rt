@@ -4,7 +4,7 @@ ghost use Rattle.sound_rate.specs.declared.rate.Rate.{Rate};
 ghost use Rattle.sound_rate.specs.Rates.{written_at};
 ghost use Rattle.sound_rate.specs.HeldRates.{HasMade};
 ghost use Rattle.tnc_ports.specs.ReportText.{output_octets};
-ghost use Rattle.tnc_ports.specs.SampledWrites.{Puts, stream_of};
+ghost use Rattle.tnc_ports.specs.SampledWrites.{Puts};
 
 use crate::writing::put;
 use byteorder::{ByteOrder, LittleEndian};
@@ -25,8 +25,7 @@ pub(crate) fn put_samples<S: Sink>(
 )
     ensures put { (rate : Rate) (x : List ℤ) → HasMade rate out.old x → HasMade rate out.new (x ++ samples.now)
         × (gone : List ℤ) × (written_at rate (x ++ samples.now) ≡ written_at rate x ++ gone)
-        × Puts failed.old failed.new (output_octets gone) (stream_of S.written S.faults sink.old)
-        (stream_of S.written S.faults sink.new) }
+        × Puts failed.old failed.new (output_octets gone) (S.told sink.old) (S.told sink.new) }
     ensures size { length samples.now ≡ 96 }
 {
     let mut room = [0; MOST];
@@ -37,8 +36,7 @@ pub(crate) fn put_samples<S: Sink>(
 /// Writes samples, unless there are none or a write failed before.
 fn put_octets<S: Sink>(sink: &mut S, failed: &mut bool, samples: &[i16])
     requires { length samples.now ≤ 480 }
-    ensures { Puts failed.old failed.new (output_octets samples.now) (stream_of S.written S.faults sink.old)
-        (stream_of S.written S.faults sink.new) }
+    ensures { Puts failed.old failed.new (output_octets samples.now) (S.told sink.old) (S.told sink.new) }
 {
     let mut octets = [0; MOST_OCTETS];
     let octets = &mut octets[..2 * samples.len()];

@@ -6,11 +6,12 @@ ghost use Rattle.link_machine.specs.Params.{IsRefusedWindow};
 ghost use Rattle.sample_ring.specs.Ends.{ring_id, ring_len, reader_ring, writer_ring, published_by};
 ghost use Rattle.live_receiver.specs.Listening.{CanBeAskedBy};
 ghost use Rattle.sound_rate.specs.declared.rate.Rate.{Rate};
+ghost use Rattle.tnc_base.specs.Streams.{SourceTold};
 ghost use Rattle.tnc_base.specs.Faults.{HasRisen};
 ghost use Rattle.live_receiver.specs.LiveReceivers.{readers_in};
 ghost use Rattle.tnc_ports.specs.FreshReceiver.{IsFresh};
 ghost use Rattle.tnc_ports.specs.HeldMeter.{IsFreshSound, IsSoundOf, answers_if};
-ghost use Rattle.tnc_ports.specs.PumpRun.{InputSide, Pumps, input_by};
+ghost use Rattle.tnc_ports.specs.PumpRun.{Pumps};
 ghost use Rattle.tnc_ports.specs.SampledPump.{IsClosed, IsLoopedIf};
 ghost use Rattle.tnc_ports.specs.SampledRun.{outside_by};
 ghost use Rattle.tnc_ports.specs.ServeRun.{IsServed, end_of};
@@ -81,11 +82,9 @@ pub fn serve<
 ) -> ServeEnd
     requires window { (window : ℕ) → ¬ IsRefusedWindow words.config.params window }
     requires dcd { CanBeAskedBy words.listening words.dcd }
-    ensures served { IsServed words result (input_by I.left I.faults input.old) (input_by I.left I.faults input.new)
-        (outside_by N.told K.told O.written O.faults E.written E.faults
-        live.old.ports live.old.key output.old report.old)
-        (outside_by N.told K.told O.written O.faults E.written E.faults
-        live.new.ports live.new.key output.new report.new) }
+    ensures served { IsServed words result (I.told input.old) (I.told input.new)
+        (outside_by N.told K.told O.told E.told live.old.ports live.old.key output.old report.old)
+        (outside_by N.told K.told O.told E.told live.new.ports live.new.key output.new report.new) }
     ensures no_thread { result ≡ ServeEnd.NoThread → HasRisen (W.faults live.old.spawner) (W.faults live.new.spawner) }
     ensures thread { result ≢ ServeEnd.NoThread → W.faults live.new.spawner ≡ W.faults live.old.spawner }
     ensures dials { (N.told live.new.ports).dials ≡ (N.told live.old.ports).dials }
@@ -162,15 +161,15 @@ fn run_beside<
     requires new { published_by writer ≡ [] }
     requires fresh { IsFresh words.now ring.now receiver.old }
     requires sound { IsFreshSound ring.now sound.old }
-    ensures pumped { IfSome result (λ pumped. Pumps words.now.rate ring.now pumped (input_by I.left I.faults input.old)
-        (input_by I.left I.faults input.new)) }
-    ensures unread { IsNone result → input_by I.left I.faults input.new ≡ input_by I.left I.faults input.old }
+    ensures pumped { IfSome result (λ pumped. Pumps words.now.rate ring.now pumped (I.told input.old)
+        (I.told input.new)) }
+    ensures unread { IsNone result → I.told input.new ≡ I.told input.old }
     ensures readers { All (λ reader. reader_ring reader ≡ ring_id ring.now) (readers_in receiver.new) }
     ensures sound { IsSoundOf ring.now sound.new }
     ensures looped { IsLoopedIf (is_some result) words.now end.new
         (answers_if (ring_len ring.now) receiver.new sound.new)
-        (outside_by N.told K.told O.written O.faults E.written E.faults ports.old key.old output.old report.old)
-        (outside_by N.told K.told O.written O.faults E.written E.faults ports.new key.new output.new report.new) }
+        (outside_by N.told K.told O.told E.told ports.old key.old output.old report.old)
+        (outside_by N.told K.told O.told E.told ports.new key.new output.new report.new) }
     ensures counted { CountsUnless (is_some result) (W.faults spawner.old) (W.faults spawner.new) }
     ensures dials { (N.told ports.new).dials ≡ (N.told ports.old).dials }
 {
@@ -189,9 +188,9 @@ fn run_beside<
                 × IsSoundOf ring.entry.now sound.exit.now
                 × IsLoopedIf begins words.entry.now end.exit.now
                 (answers_if (ring_len ring.entry.now) receiver.exit.now sound.exit.now)
-                (outside_by N.told K.told O.written O.faults E.written E.faults
+                (outside_by N.told K.told O.told E.told
                 ports.entry.now key.entry.now output.entry.now report.entry.now)
-                (outside_by N.told K.told O.written O.faults E.written E.faults
+                (outside_by N.told K.told O.told E.told
                 ports.exit.now key.exit.now output.exit.now report.exit.now)
                 × ((N.told ports.exit.now).dials ≡ (N.told ports.entry.now).dials) }
         {
@@ -223,8 +222,8 @@ fn loop_if<R: Threads + Wait + Net + Sync, O: Sink, E: Sink, N: Ports, K: KeyPor
     ensures readers { All (λ reader. reader_ring reader ≡ ring_id ring.now) (readers_in receiver.new) }
     ensures sound { IsSoundOf ring.now sound.new }
     ensures looped { IsLoopedIf begins words.now end.new (answers_if (ring_len ring.now) receiver.new sound.new)
-        (outside_by N.told K.told O.written O.faults E.written E.faults ports.old key.old output.old report.old)
-        (outside_by N.told K.told O.written O.faults E.written E.faults ports.new key.new output.new report.new) }
+        (outside_by N.told K.told O.told E.told ports.old key.old output.old report.old)
+        (outside_by N.told K.told O.told E.told ports.new key.new output.new report.new) }
     ensures dials { (N.told ports.new).dials ≡ (N.told ports.old).dials }
 {
     if begins {
@@ -248,8 +247,8 @@ fn close(
     requires sound { IsSoundOf ring sound }
     requires empty { room.items ≡ [] }
     requires room { 10 ≤ vec_capacity room }
-    requires pumped { (rate : Rate) × (input : InputSide) × (left : InputSide) × Pumps rate ring pumped input left }
-    ensures closed { (rate : Rate) (input left : InputSide) → Pumps rate ring pumped input left
+    requires pumped { (rate : Rate) × (input : SourceTold) × (left : SourceTold) × Pumps rate ring pumped input left }
+    ensures closed { (rate : Rate) (input left : SourceTold) → Pumps rate ring pumped input left
         → IsClosed rate end result (answers_if CELLS receiver sound) input left }
     ensures thread { result ≢ ServeEnd.NoThread }
 {

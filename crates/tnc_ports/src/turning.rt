@@ -20,6 +20,7 @@ ghost use Rattle.station.specs.Monitored.{heard_modulus, sent_modulus};
 ghost use Rattle.host_ports.specs.Sockets.{PortsTold};
 ghost use Rattle.host_ports.specs.CutPart.{HasCutPart};
 ghost use Rattle.host_ports.specs.declared.report_line.ReportLine.{ReportLine};
+ghost use Rattle.tnc_base.specs.Streams.{SinkTold};
 ghost use Rattle.tnc_ports.specs.declared.serve_words.KeyWords.{KeyWords};
 ghost use Rattle.host_ports.specs.Health.{after_notes, after_tick, notes_of, standing_of};
 ghost use Rattle.host_ports.specs.HeldHosts.{StandsFor};
@@ -29,7 +30,6 @@ ghost use Rattle.host_ports.specs.Hosts.{Hosts};
 ghost use Rattle.tnc_ports.specs.Sampled.{Live, gap_line};
 ghost use Rattle.tnc_ports.specs.SampledFrames.{AreReceivedLines, AreSentLines};
 ghost use Rattle.tnc_ports.specs.SampledRun.{IsCutInReading};
-ghost use Rattle.tnc_ports.specs.SampledWrites.{Stream, stream_of};
 
 use crate::key_lines::put_reports;
 use crate::line_texts::{text_of_both, text_of_lines, text_of_notes};
@@ -96,18 +96,14 @@ impl Turning {
         requires detection { detection_of receiver.old ≡ self.old.words.dcd }
         requires meter { reader_ring self.old.meter.reader ≡ ring_id ring.now }
         ensures turned { (from : From) (live : Live) → StandsForLive self.old (ring_len ring.now) receiver.old live
-            → KeyedSince from self.old live (stream_of O.written O.faults output.old)
-            (stream_of E.written E.faults report.old) (K.told key.old)
+            → KeyedSince from self.old live (O.told output.old) (E.told report.old) (K.told key.old)
             → IfOk result (λ ended. Turns from ended self.old self.new (ring_len ring.now) receiver.new live
-            (stream_of O.written O.faults output.old) (stream_of O.written O.faults output.new)
-            (stream_of E.written E.faults report.old) (stream_of E.written E.faults report.new)
+            (O.told output.old) (O.told output.new) (E.told report.old) (E.told report.new)
             (N.told ports.old) (N.told ports.new) (K.told key.new)) }
         ensures cut { (from : From) (live : Live) → StandsForLive self.old (ring_len ring.now) receiver.old live
-            → KeyedSince from self.old live (stream_of O.written O.faults output.old)
-            (stream_of E.written E.faults report.old) (K.told key.old)
+            → KeyedSince from self.old live (O.told output.old) (E.told report.old) (K.told key.old)
             → OnErr result (IsCutOff from self.old self.new (ring_len ring.now) receiver.new live
-            (stream_of O.written O.faults output.old) (stream_of O.written O.faults output.new)
-            (stream_of E.written E.faults report.old) (stream_of E.written E.faults report.new)
+            (O.told output.old) (O.told output.new) (E.told report.old) (E.told report.new)
             (N.told ports.old) (N.told ports.new) (K.told key.new)) }
         ensures words { self.new.words ≡ self.old.words }
         ensures readers { All (λ reader. reader_ring reader ≡ ring_id ring.now) (readers_in receiver.new) }
@@ -139,17 +135,13 @@ impl Turning {
         requires detection { detection_of receiver.old ≡ self.old.words.dcd }
         requires meter { reader_ring self.old.meter.reader ≡ ring_id ring.now }
         ensures made { (from : From) (live : Live) → StandsForLive self.old (ring_len ring.now) receiver.old live
-            → KeyedSince from self.old live (stream_of O.written O.faults output.old)
-            (stream_of E.written E.faults report.old) (K.told key.old)
+            → KeyedSince from self.old live (O.told output.old) (E.told report.old) (K.told key.old)
             → IfOk result (λ ended. Makes from ended self.old self.new (ring_len ring.now) receiver.new live
-            (stream_of O.written O.faults output.old) (stream_of O.written O.faults output.new)
-            (stream_of E.written E.faults report.old) (stream_of E.written E.faults report.new) (K.told key.new)) }
+            (O.told output.old) (O.told output.new) (E.told report.old) (E.told report.new) (K.told key.new)) }
         ensures cut { (from : From) (live : Live) → StandsForLive self.old (ring_len ring.now) receiver.old live
-            → KeyedSince from self.old live (stream_of O.written O.faults output.old)
-            (stream_of E.written E.faults report.old) (K.told key.old)
+            → KeyedSince from self.old live (O.told output.old) (E.told report.old) (K.told key.old)
             → OnErr result ((told : PortsTold) → IsCutOff from self.old self.new (ring_len ring.now) receiver.new live
-            (stream_of O.written O.faults output.old) (stream_of O.written O.faults output.new)
-            (stream_of E.written E.faults report.old) (stream_of E.written E.faults report.new) told told
+            (O.told output.old) (O.told output.new) (E.told report.old) (E.told report.new) told told
             (K.told key.new)) }
         ensures words { self.new.words ≡ self.old.words }
         ensures readers { All (λ reader. reader_ring reader ≡ ring_id ring.now) (readers_in receiver.new) }
@@ -176,8 +168,7 @@ impl Turning {
         requires readers { All (λ reader. reader_ring reader ≡ ring_id ring.now) (readers_in receiver.old) }
         ensures reads { (live : Live) → StandsForLive self.old (ring_len ring.now) receiver.old live
             → IfOk result (λ heard. Reads heard.ended heard.least heard.items.items self.old self.new
-            (ring_len ring.now) receiver.new live
-            (stream_of E.written E.faults report.old) (stream_of E.written E.faults report.new)) }
+            (ring_len ring.now) receiver.new live (E.told report.old) (E.told report.new)) }
         ensures cut { (live : Live) → StandsForLive self.old (ring_len ring.now) receiver.old live
             → OnErr result (IsCutInReading self.old.words live
             (record live { lanes = answers_in (ring_len ring.now) receiver.new })) }
@@ -200,11 +191,9 @@ impl Turning {
     fn hear_all<E: Sink>(&mut self, report: &mut E, items: &[Candidate]) -> Result<(), OutOfMemory>
         requires { All (λ item. HasFrameLength item.octets) items.now }
         ensures heard { (hosts : Hosts) → Keeps self.old.hosts hosts
-            → OnOk result (HearsFrames items.now self.old self.new hosts (stream_of E.written E.faults report.old)
-            (stream_of E.written E.faults report.new)) }
+            → OnOk result (HearsFrames items.now self.old self.new hosts (E.told report.old) (E.told report.new)) }
         ensures cut { (hosts : Hosts) → Keeps self.old.hosts hosts
-            → OnErr result (HearsSome items.now self.old self.new hosts (stream_of E.written E.faults report.old)
-            (stream_of E.written E.faults report.new)) }
+            → OnErr result (HearsSome items.now self.old self.new hosts (E.told report.old) (E.told report.new)) }
         ensures rest { (self.new.words ≡ self.old.words) × (self.new.ticks ≡ self.old.ticks)
             × (self.new.key ≡ self.old.key) × (self.new.meter ≡ self.old.meter) }
     {
@@ -218,8 +207,7 @@ impl Turning {
     fn hear<E: Sink>(&mut self, report: &mut E, octets: &[u8]) -> Result<(), OutOfMemory>
         requires { HasFrameLength octets.now }
         ensures heard { (hosts : Hosts) → Keeps self.old.hosts hosts
-            → OnOk result (HearsFrame octets.now self.old self.new hosts (stream_of E.written E.faults report.old)
-            (stream_of E.written E.faults report.new)) }
+            → OnOk result (HearsFrame octets.now self.old self.new hosts (E.told report.old) (E.told report.new)) }
         ensures unwritten { OnErr result ((report.new ≡ report.old) × (self.new.failed ≡ self.old.failed)) }
         ensures rest { (self.new.words ≡ self.old.words) × (self.new.ticks ≡ self.old.ticks)
             × (self.new.key ≡ self.old.key) × (self.new.meter ≡ self.old.meter) }
@@ -241,10 +229,9 @@ impl Turning {
         key: &mut K,
     )
         ensures turned { (from : From) (live : Live) → Keeps self.old.hosts live.hosts
-            → KeyedSince from self.old live (stream_of O.written O.faults output.now)
-            (stream_of E.written E.faults report.old) (K.told key.old)
-            → TurnsTheKey from self.old self.new live (stream_of O.written O.faults output.now)
-            (stream_of E.written E.faults report.old) (stream_of E.written E.faults report.new) (K.told key.new) }
+            → KeyedSince from self.old live (O.told output.now) (E.told report.old) (K.told key.old)
+            → TurnsTheKey from self.old self.new live (O.told output.now)
+            (E.told report.old) (E.told report.new) (K.told key.new) }
         ensures rest { (self.new.words ≡ self.old.words) × (self.new.ticks ≡ self.old.ticks)
             × (self.new.hosts ≡ self.old.hosts) × (self.new.meter ≡ self.old.meter) }
     {
@@ -269,18 +256,16 @@ impl Turning {
     ) -> Result<(), OutOfMemory>
         requires meter { reader_ring self.old.meter.reader ≡ ring_id ring.now }
         ensures ticked { (from : From) (live : Live) → Keeps self.old.hosts live.hosts → self.old.ticks ≡ live.ticks
-            → Measures (ring_len ring.now) self.old.words.rate self.old.meter live → KeyedSince from self.old live (stream_of O.written O.faults output.old)
-            (stream_of E.written E.faults report.old) (K.told key.old)
+            → Measures (ring_len ring.now) self.old.words.rate self.old.meter live
+            → KeyedSince from self.old live (O.told output.old) (E.told report.old) (K.told key.old)
             → OnOk result (TicksAll from busy (least / 96 - live.ticks) (ring_len ring.now) self.old self.new live
-            (stream_of O.written O.faults output.old) (stream_of O.written O.faults output.new)
-            (stream_of E.written E.faults report.old) (stream_of E.written E.faults report.new) (K.told key.new)) }
+            (O.told output.old) (O.told output.new) (E.told report.old) (E.told report.new) (K.told key.new)) }
         ensures cut { (from : From) (live : Live) → Keeps self.old.hosts live.hosts → self.old.ticks ≡ live.ticks
-            → Measures (ring_len ring.now) self.old.words.rate self.old.meter live → KeyedSince from self.old live (stream_of O.written O.faults output.old)
-            (stream_of E.written E.faults report.old) (K.told key.old)
+            → Measures (ring_len ring.now) self.old.words.rate self.old.meter live
+            → KeyedSince from self.old live (O.told output.old) (E.told report.old) (K.told key.old)
             → OnErr result ((count : ℕ) × (live.ticks + count ≤ least / 96) × Ticks from busy count (ring_len ring.now) self.old
             self.new live
-            (stream_of O.written O.faults output.old) (stream_of O.written O.faults output.new)
-            (stream_of E.written E.faults report.old) (stream_of E.written E.faults report.new) (K.told key.new)) }
+            (O.told output.old) (O.told output.new) (E.told report.old) (E.told report.new) (K.told key.new)) }
         ensures rest { self.new.words ≡ self.old.words }
         ensures meter { reader_ring self.new.meter.reader ≡ ring_id ring.now }
     {
@@ -304,11 +289,10 @@ impl Turning {
         requires tick { 96 * (tick + 1) < 2 ^ 64 }
         requires meter { reader_ring self.old.meter.reader ≡ ring_id ring.now }
         ensures ticked { (from : From) (live : Live) → Keeps self.old.hosts live.hosts → tick ≡ live.ticks
-            → Measures (ring_len ring.now) self.old.words.rate self.old.meter live → KeyedSince from self.old live (stream_of O.written O.faults output.old)
-            (stream_of E.written E.faults report.old) (K.told key.old)
+            → Measures (ring_len ring.now) self.old.words.rate self.old.meter live
+            → KeyedSince from self.old live (O.told output.old) (E.told report.old) (K.told key.old)
             → OnOk result (TicksAll from busy 1 (ring_len ring.now) self.old self.new live
-            (stream_of O.written O.faults output.old) (stream_of O.written O.faults output.new)
-            (stream_of E.written E.faults report.old) (stream_of E.written E.faults report.new) (K.told key.new)) }
+            (O.told output.old) (O.told output.new) (E.told report.old) (E.told report.new) (K.told key.new)) }
         ensures unwritten { OnErr result ((output.new ≡ output.old) × (report.new ≡ report.old) × (key.new ≡ key.old)
             × (self.new.failed ≡ self.old.failed) × (self.new.key ≡ self.old.key)) }
         ensures measured { OnErr result ((more : List Got) × (answers_of (ring_len ring.now) self.new.meter.reader
@@ -368,7 +352,7 @@ impl Turning {
     ) -> KeyReports
         ensures told { (words : KeyWords) (octets : ℕ) (keyed : List KeyEvent) → self.old.words.key ≡ Some words
             → KeyStands self.old.words.key self.old.key keyed
-            → DoesForKey words octets (O.written output.now) (KeyTick (has_sound samples.now)) keyed
+            → DoesForKey words octets (O.told output.now).written (KeyTick (has_sound samples.now)) keyed
             (reports_in result) self.new.key (K.told key.old) (K.told key.new) }
         ensures none { self.old.key ≡ None → (self.new.key ≡ None) × (key.new ≡ key.old) × (reports_in result ≡ []) }
         ensures rest { (self.new.words ≡ self.old.words) × (self.new.ticks ≡ self.old.ticks)
@@ -385,7 +369,7 @@ impl Turning {
     fn key_written<O: Sink, K: KeyPort<O>>(&mut self, output: &O, key: &mut K) -> KeyReports
         ensures told { (words : KeyWords) (octets : ℕ) (keyed : List KeyEvent) → self.old.words.key ≡ Some words
             → KeyStands self.old.words.key self.old.key keyed
-            → DoesForKey words octets (O.written output.now) (KeyAfterWrite self.old.failed) keyed
+            → DoesForKey words octets (O.told output.now).written (KeyAfterWrite self.old.failed) keyed
             (reports_in result) self.new.key (K.told key.old) (K.told key.new) }
         ensures none { self.old.key ≡ None → (self.new.key ≡ None) × (key.new ≡ key.old) × (reports_in result ≡ []) }
         ensures rest { (self.new.words ≡ self.old.words) × (self.new.ticks ≡ self.old.ticks)
@@ -405,8 +389,8 @@ impl Turning {
         output: &O,
         key: &mut K,
     )
-        ensures released { (from : From) (live : Live) (report : Stream)
-            → KeyedSince from self.old live (stream_of O.written O.faults output.now) report (K.told key.old)
+        ensures released { (from : From) (live : Live) (report : SinkTold)
+            → KeyedSince from self.old live (O.told output.now) report (K.told key.old)
             → IsReleasedSince from self.old.words.key live (K.told key.new) }
         ensures meter { self.new.meter ≡ self.old.meter }
     {
@@ -421,8 +405,7 @@ impl Turning {
         ports: &mut N,
     ) -> Result<(), OutOfMemory>
         ensures served { (hosts : Hosts) → Keeps self.old.hosts hosts
-            → OnOk result (ServesAll self.old self.new hosts
-            (stream_of E.written E.faults report.old) (stream_of E.written E.faults report.new)
+            → OnOk result (ServesAll self.old self.new hosts (E.told report.old) (E.told report.new)
             (N.told ports.old)
             (N.told ports.new)) }
         ensures cut { (hosts : Hosts) → Keeps self.old.hosts hosts → OnErr result (HasCutPart hosts

@@ -18,8 +18,9 @@ pub use Rattle.std.proofs.lemmas.Grind.{flat_map-append}
 pub use Rattle.std.proofs.lemmas.List.{append-nil, map-append}
 pub use Rattle.std.proofs.lemmas.List.Elements.{All-cons, All-head, All-nil, All-tail}
 pub use Rattle.std.specs.Prelude.{All, Bool, Err, Ok, Result, Some, false, true, ℤ, ◌&&◌}
+pub use Rattle.tnc_base.specs.Streams.{SinkTold}
 pub use Rattle.tnc_ports.proofs.LiveWrites.{puts_puts}
-pub use Rattle.tnc_ports.specs.SampledWrites.{Puts, Stream, stream_of}
+pub use Rattle.tnc_ports.specs.SampledWrites.{Puts}
 pub use Rattle.tnc_ports.specs.ServeRun.{ring_cells}
 pub use Rattle.tnc_ports.specs.declared.looping.LoopEnd.{LoopEnd}
 pub use Rattle.tnc_record.specs.HeldListening.{IsAnswered, IsCutOff, ReadsRing, Runs, Turns}

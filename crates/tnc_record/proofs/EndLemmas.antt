@@ -1,8 +1,9 @@
 -- The ring once the pump and the turns have ended, and the recording as a whole.
+use Rattle.tnc_base.specs.Streams.{SourceTold}
 use Rattle.tnc_record.proofs.Common.{ℤ, Bool, true, All, Result, Ok, Err, ◌≡◌, ℕ, List, [], ◌∷◌, ◌++◌, length, map}
 use Rattle.tnc_record.proofs.Common.{take, refl, sym, ap, subst, ◌∙◌, inr, arith, false≢true, map-append, All-nil}
 use Rattle.tnc_record.proofs.Common.{All-cons, All-head, All-tail, Reader, record_of, reads_of, StandsIn, answers_of}
-use Rattle.tnc_record.proofs.Common.{items, losses, has_ended, Tile, LoopEnd, Stream, ring_cells, Listening}
+use Rattle.tnc_record.proofs.Common.{items, losses, has_ended, Tile, LoopEnd, SinkTold, ring_cells, Listening}
 use Rattle.tnc_record.proofs.Common.{RecordWords, IsAnswered, ReadsRing, Recording}
 use Rattle.std.specs.Prelude.{IsOk, is_ok, if◌then◌else◌}
 use Rattle.std.proofs.lemmas.List.{take-map}
@@ -16,7 +17,6 @@ use Rattle.tnc_ports.specs.declared.looping.LoopEnd.TheVariants.{Done as LoopDon
 use Rattle.tnc_ports.specs.declared.looping.LoopEnd.TheVariants.{WriteFault as LoopFault}
 use Rattle.tnc_ports.specs.declared.pumping.PumpEnd.{PumpEnd}
 use Rattle.tnc_ports.specs.declared.pumping.PumpEnd.TheVariants.{InputEnd, ReadFault, TooLong}
-use Rattle.tnc_ports.specs.PumpRun.{InputSide}
 use Rattle.tnc_ports.specs.ServeRun.{LanesStandIn}
 use Rattle.tnc_ports.proofs.LiveServe.{lanes_stand}
 use Rattle.tnc_record.specs.declared.recording.RecordEnd.{RecordEnd}
@@ -110,8 +110,8 @@ recorder_closed published listening recording stand answered =
 
 -- ---- by how recording ends
 
-recorded : (words : RecordWords) (loop : LoopEnd) (pump : PumpEnd) (end : RecordEnd) (input left : InputSide)
-    (o o' r r' : Stream) → end ≡ end_of loop pump → HasRecorded words end input left o o' r r'
+recorded : (words : RecordWords) (loop : LoopEnd) (pump : PumpEnd) (end : RecordEnd) (input left : SourceTold)
+    (o o' r r' : SinkTold) → end ≡ end_of loop pump → HasRecorded words end input left o o' r r'
     → IsRecorded words end input left o o' r r'
 recorded words LoopDone InputEnd end input left o o' r r' e h =
     subst (λ x. IsRecorded words x input left o o' r r') (sym e)
@@ -131,7 +131,7 @@ recorded words LoopFault pump end input left o o' r r' e h =
 
 -- the turns were made, and then the ring was closed
 pub all_recorded : (words : RecordWords) (begins : Bool) (loop : LoopEnd) (end : RecordEnd) (len : ℕ)
-    (listening : Listening) (input left : InputSide) (o o' r r' : Stream) → begins ≡ true → len ≡ ring_cells
+    (listening : Listening) (input left : SourceTold) (o o' r r' : SinkTold) → begins ≡ true → len ≡ ring_cells
     → LoopsIf begins words loop len listening o o' r r'
     → ((recording : Recording) → IsAnswered ring_cells listening recording → IsClosed loop end recording input left)
     → IsRecorded words end input left o o' r r'

@@ -1,6 +1,6 @@
 -- The end of the loop: what is written past the last turn, or where memory was wanted.
 use Rattle.tnc_record.proofs.Common.{Bool, true, false, Some, ◌≡◌, ℕ, suc, List, [], ◌++◌, refl, sym, ap, subst, inl}
-use Rattle.tnc_record.proofs.Common.{inr, ◌∙◌, append-nil, HeldRecorder, StandsFor, answers_of, losses, Stream, Puts}
+use Rattle.tnc_record.proofs.Common.{inr, ◌∙◌, append-nil, HeldRecorder, StandsFor, answers_of, losses, SinkTold, Puts}
 use Rattle.tnc_record.proofs.Common.{puts_puts, LoopEnd, Listening, RecordWords, IsAnswered, Turns, IsCutOff, Runs}
 use Rattle.tnc_record.proofs.Common.{report_text, text_of_losses, Recording, new_recording, IsRun}
 use Rattle.tnc_base.specs.Faults.{HasRisen}
@@ -18,7 +18,7 @@ use Rattle.tnc_record.proofs.TurnLemmas.{turns_more, reported_more}
 
 -- the lines of the turns and then those of the losses
 pub all_reported : (len : ℕ) (held : HeldRecorder) (recording : Recording) (failed failed' : Bool) (text : List ℕ)
-    (start r r' : Stream) → StandsFor len held → answers_of len held.reader ≡ recording.recorded
+    (start r r' : SinkTold) → StandsFor len held → answers_of len held.reader ≡ recording.recorded
     → Puts false failed (report_text recording.lines) start r → text ≡ text_of_losses held.losses
     → Puts failed failed' text r r' → Puts false failed' (report_text (lines_of recording)) start r'
 all_reported len held recording failed failed' text start r r' stands answered so_far is puts =
@@ -36,21 +36,21 @@ pub same_wave : (len keep : ℕ) (held : HeldRecorder) (recording : Recording) �
 same_wave len keep held recording stands kept answered =
     ap wave_of (stands.sound_is ∙ ap (λ k. sound k (answers_of len held.reader)) kept ∙ ap (sound keep) answered)
 
-no_part : (octets : List ℕ) (s : Stream) → PutsPart octets s s
+no_part : (octets : List ℕ) (s : SinkTold) → PutsPart octets s s
 no_part octets s = record { written = λ was e. ([], octets, refl, e ∙ ap Some (sym (append-nil was))) }
 
-part_of_all : (octets : List ℕ) (x y : Stream) → PutsAll octets x y → PutsPart octets x y
+part_of_all : (octets : List ℕ) (x y : SinkTold) → PutsAll octets x y → PutsPart octets x y
 part_of_all octets x y h = record { written = λ was e. (octets, [], sym (append-nil octets), h.written was e) }
 
 -- the report failed
-pub report_failed : (keep : ℕ) (recording : Recording) (failed : Bool) (o r r' : Stream) → failed ≡ true
+pub report_failed : (keep : ℕ) (recording : Recording) (failed : Bool) (o r r' : SinkTold) → failed ≡ true
     → Puts false failed (report_text (lines_of recording)) r r' → PartIsWritten keep recording o o r r'
 report_failed keep recording failed o r r' e puts =
     let p = subst (λ f. Puts false f (report_text (lines_of recording)) r r') e puts in
     record { wave = no_part (wave_of (sound keep recording.recorded)) o; lines = p.0; failed = inr p.1 }
 
 -- all is written
-pub all_written : (keep : ℕ) (recording : Recording) (failed : Bool) (wave : List ℕ) (o o' r r' : Stream)
+pub all_written : (keep : ℕ) (recording : Recording) (failed : Bool) (wave : List ℕ) (o o' r r' : SinkTold)
     → failed ≡ false → Puts false failed (report_text (lines_of recording)) r r'
     → wave ≡ wave_of (sound keep recording.recorded)
     → ((was : List ℕ) → o.written ≡ Some was → o'.written ≡ Some (was ++ wave)) → o'.faults ≡ o.faults
@@ -61,7 +61,7 @@ all_written keep recording failed wave o o' r r' e puts is written faultless = r
 }
 
 -- the output failed
-pub output_failed : (keep : ℕ) (recording : Recording) (failed : Bool) (wave : List ℕ) (o o' r r' : Stream)
+pub output_failed : (keep : ℕ) (recording : Recording) (failed : Bool) (wave : List ℕ) (o o' r r' : SinkTold)
     → failed ≡ false → Puts false failed (report_text (lines_of recording)) r r'
     → wave ≡ wave_of (sound keep recording.recorded)
     → ((was : List ℕ) → o.written ≡ Some was → WrotePart was wave o'.written) → HasRisen o.faults o'.faults
@@ -75,13 +75,13 @@ output_failed keep recording failed wave o o' r r' e puts is written risen = rec
 
 -- ---- where memory was wanted
 
-turns_written : (recording : Recording) (failed : Bool) (o o' r r' : Stream) → o' ≡ o
+turns_written : (recording : Recording) (failed : Bool) (o o' r r' : SinkTold) → o' ≡ o
     → Puts false failed (report_text recording.lines) r r' → TurnsAreWritten recording o o' r r'
 turns_written recording true o o' r r' same puts = record { no_wave = same; lines = inr puts }
 turns_written recording false o o' r r' same puts = record { no_wave = same; lines = inl puts }
 
 -- a turn was cut short
-pub loop_cut : (words : RecordWords) (before after : Listening) (len : ℕ) (o o' start s s' : Stream) → o' ≡ o
+pub loop_cut : (words : RecordWords) (before after : Listening) (len : ℕ) (o o' start s s' : SinkTold) → o' ≡ o
     → (h : Runs words before len start s) → IsCutOff words before after len h.recording s s'
     → (recording : Recording) × IsAnswered len after recording × IsLooped words Memory recording o o' start s'
 loop_cut words before after len o o' start s s' same h cut = (
@@ -95,14 +95,14 @@ loop_cut words before after len o o' start s s' same h cut = (
 )
 
 -- the last turn was made
-pub record RanOver (words : RecordWords) (after : Listening) (len : ℕ) (start s : Stream) : Type 0 where
+pub record RanOver (words : RecordWords) (after : Listening) (len : ℕ) (start s : SinkTold) : Type 0 where
   pub recording : Recording
   pub run : IsRun words.sensitive recording
   pub answered : IsAnswered len after recording
   pub keep : after.recorder.keep ≡ words.keep
   pub writes : Puts false after.failed (report_text recording.lines) start s
 
-pub ran_over : (words : RecordWords) (ended : Bool) (before after : Listening) (len : ℕ) (start s s' : Stream)
+pub ran_over : (words : RecordWords) (ended : Bool) (before after : Listening) (len : ℕ) (start s s' : SinkTold)
     (h : Runs words before len start s) → Turns words ended before after len h.recording s s' → ended ≡ true
     → RanOver words after len start s'
 ran_over words ended before after len start s s' h t over = record {
@@ -119,6 +119,6 @@ ran_over words ended before after len start s s' h t over = record {
 }
 
 -- the turns left the output as it was
-pub from_output : (words : RecordWords) (end : LoopEnd) (recording : Recording) (o o' x r r' : Stream) → o ≡ o'
+pub from_output : (words : RecordWords) (end : LoopEnd) (recording : Recording) (o o' x r r' : SinkTold) → o ≡ o'
     → IsLooped words end recording o x r r' → IsLooped words end recording o' x r r'
 from_output words end recording o o' x r r' same h = subst (λ s. IsLooped words end recording s x r r') same h

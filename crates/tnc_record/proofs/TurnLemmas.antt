@@ -2,7 +2,7 @@
 use Rattle.tnc_record.proofs.Common.{Bool, true, false, Result, Ok, Err, ◌&&◌, ◌≡◌, ℕ, suc, ◌<◌, ◌≤◌, List, [], ◌++◌}
 use Rattle.tnc_record.proofs.Common.{map, take, length, refl, inl, inr, ◌∙◌, sym, ap, subst, arith, false≢true}
 use Rattle.tnc_record.proofs.Common.{append-nil, map-append, Candidate, Got, Entry, reads_of, answer, LaneGap, lane_of}
-use Rattle.tnc_record.proofs.Common.{readers_wanted, HeldRecorder, StandsFor, answers_of, has_ended, Stream, Puts}
+use Rattle.tnc_record.proofs.Common.{readers_wanted, HeldRecorder, StandsFor, answers_of, has_ended, SinkTold, Puts}
 use Rattle.tnc_record.proofs.Common.{puts_puts, Listening, RecordWords, IsAnswered, Turns, IsCutOff, Runs, report_text}
 use Rattle.tnc_record.proofs.Common.{turn_lines, Recording, new_recording, HearsUnlessOver, AreTurns}
 use Rattle.std.specs.Prelude.{OnErr}
@@ -24,11 +24,11 @@ on_err (Err e) p = p
 
 -- ---- what is reported
 
-puts_none : (failed : Bool) (s : Stream) → Puts failed failed [] s s
+puts_none : (failed : Bool) (s : SinkTold) → Puts failed failed [] s s
 puts_none true s = (refl, refl)
 puts_none false s = record { written = λ was e. e ∙ ap Some (sym (append-nil was)); faultless = refl }
 
-no_report : (failed : Bool) (recording after : Recording) (s : Stream) → after.lines ≡ recording.lines
+no_report : (failed : Bool) (recording after : Recording) (s : SinkTold) → after.lines ≡ recording.lines
     → ReportsMore failed failed recording after s s
 no_report failed recording after s same = record {
   lines = [];
@@ -53,7 +53,7 @@ HeardAs sensitive ended gaps items old now =
     IsTurnOf (readers_wanted sensitive) old now gaps ended × AreDueBy sensitive ended old now items
 
 pub hears_on : (words : RecordWords) (before after : Listening) (len : ℕ) (recording : Recording) (ended : Bool)
-    (gaps : List LaneGap) (items : List Candidate) (text : List ℕ) (s s' : Stream)
+    (gaps : List LaneGap) (items : List Candidate) (text : List ℕ) (s s' : SinkTold)
     → StandsForRecording words len before recording → before.over ≡ false
     → IsTurnOf (readers_wanted before.receiver.sensitive) (answers_in len before.receiver)
     (answers_in len after.receiver) gaps ended
@@ -106,7 +106,7 @@ hears_on words before after len recording ended gaps items text s s' stands off 
     }
 
 -- the receiver's readers read on, and nothing was reported
-pub stops_hearing : (words : RecordWords) (before after : Listening) (len : ℕ) (recording : Recording) (s : Stream)
+pub stops_hearing : (words : RecordWords) (before after : Listening) (len : ℕ) (recording : Recording) (s : SinkTold)
     → StandsForRecording words len before recording
     → AreGrownBy (readers_wanted before.receiver.sensitive) (records_in before.receiver) (records_in after.receiver)
     → after.recorder ≡ before.recorder → after.failed ≡ before.failed
@@ -173,7 +173,7 @@ not_both false b e x y = false≢true x
 
 -- a whole turn: the receiver's part and then the recorder's
 pub turned : (words : RecordWords) (ended : Bool) (before mid after : Listening) (len : ℕ) (recording : Recording)
-    (s s' : Stream) → HearsMore words before mid len recording s s'
+    (s s' : SinkTold) → HearsMore words before mid len recording s s'
     → (h : ReadOn len mid.recorder after.recorder) → IsRecorderTurn (map (answer len) h.reads)
     → after.receiver ≡ mid.receiver → after.over ≡ mid.over → after.failed ≡ mid.failed
     → ended ≡ (after.over && after.recorder.ended)
@@ -215,7 +215,7 @@ turned words ended before mid after len recording s s' heard h turn same over fa
 
 -- the recorder's part is cut short
 pub cut_in_recording : (words : RecordWords) (before mid after : Listening) (len : ℕ) (recording : Recording)
-    (s s' : Stream) → HearsMore words before mid len recording s s' → ReadOn len mid.recorder after.recorder
+    (s s' : SinkTold) → HearsMore words before mid len recording s s' → ReadOn len mid.recorder after.recorder
     → after.receiver ≡ mid.receiver → after.failed ≡ mid.failed
     → IsCutOff words before after len recording s s'
 cut_in_recording words before mid after len recording s s' heard h same failed =
@@ -232,7 +232,8 @@ cut_in_recording words before mid after len recording s s' heard h same failed =
     }
 
 -- and so is the receiver's
-pub cut_in_hearing : (words : RecordWords) (before after : Listening) (len : ℕ) (recording : Recording) (s s' : Stream)
+pub cut_in_hearing : (words : RecordWords) (before after : Listening) (len : ℕ) (recording : Recording)
+    (s s' : SinkTold)
     → StopsHearing words before after len recording s s' → IsCutOff words before after len recording s s'
 cut_in_hearing words before after len recording s s' stops = record {
   next = stops.next;
@@ -253,7 +254,7 @@ turns_more sensitive (suc count) first last next turns on turn =
     (turns.0, turns.1, turns.2, turns_more sensitive count turns.0 last next turns.3 on turn)
 
 -- all that was reported, and what a turn reports
-pub reported_more : (failed failed' : Bool) (before after : Recording) (start s s' : Stream)
+pub reported_more : (failed failed' : Bool) (before after : Recording) (start s s' : SinkTold)
     → Puts false failed (report_text before.lines) start s → ReportsMore failed failed' before after s s'
     → Puts false failed' (report_text after.lines) start s'
 reported_more failed failed' before after start s s' so_far more =
@@ -262,7 +263,7 @@ reported_more failed failed' before after start s s' so_far more =
     (puts_puts false failed failed' (report_text before.lines) (report_text more.lines) start s s' so_far more.puts)
 
 -- a turn more, after which the run goes on
-pub runs_more : (words : RecordWords) (ended : Bool) (before after : Listening) (len : ℕ) (start s s' : Stream)
+pub runs_more : (words : RecordWords) (ended : Bool) (before after : Listening) (len : ℕ) (start s s' : SinkTold)
     (h : Runs words before len start s) → Turns words ended before after len h.recording s s' → ended ≡ false
     → Runs words after len start s'
 runs_more words ended before after len start s s' h t on = record {

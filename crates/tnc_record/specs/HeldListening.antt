@@ -5,7 +5,8 @@ use Rattle.sample_ring.specs.Ends.{ring_id, reader_ring}
 use Rattle.ring_receiver.specs.HeldReceiver.{readers_in, answers_in, Hears as HearsSoFar}
 use Rattle.ring_recorder.specs.Recording.{answers_of}
 use Rattle.ring_recorder.specs.Held.{StandsFor}
-use Rattle.tnc_ports.specs.SampledWrites.{Stream, Puts}
+use Rattle.tnc_base.specs.Streams.{SinkTold}
+use Rattle.tnc_ports.specs.SampledWrites.{Puts}
 use Rattle.tnc_record.specs.declared.listening.Listening.{Listening}
 use Rattle.tnc_record.specs.declared.recording.RecordWords.{RecordWords}
 use Rattle.tnc_record.specs.RecordText.{Line, report_text}
@@ -35,7 +36,7 @@ pub record StandsForRecording (words : RecordWords) (len : ℕ) (listening : Lis
   pub keep : listening.recorder.keep ≡ words.keep
 
 -- what came to the report is put there
-pub record ReportsMore (failed failed' : Bool) (before after : Recording) (report report' : Stream) : Type 0 where
+pub record ReportsMore (failed failed' : Bool) (before after : Recording) (report report' : SinkTold) : Type 0 where
   pub lines : List Line
   pub more : after.lines ≡ before.lines ++ lines
   pub puts : Puts failed failed' (report_text lines) report report'
@@ -44,7 +45,7 @@ pub record ReportsMore (failed failed' : Bool) (before after : Recording) (repor
 
 -- what the receiver heard is reported, unless it was over
 pub record HearsMore (words : RecordWords) (before after : Listening) (len : ℕ) (recording : Recording)
-    (report report' : Stream) : Type 0 where
+    (report report' : SinkTold) : Type 0 where
   pub next : Recording
   pub hears : HearsUnlessOver recording.over words.sensitive recording next
   pub stands : StandsForRecording words len after next
@@ -52,7 +53,7 @@ pub record HearsMore (words : RecordWords) (before after : Listening) (len : ℕ
 
 -- it read on, and nothing was reported
 pub record StopsHearing (words : RecordWords) (before after : Listening) (len : ℕ) (recording : Recording)
-    (report report' : Stream) : Type 0 where
+    (report report' : SinkTold) : Type 0 where
   pub next : Recording
   pub cut : IsCutInHearing words.sensitive recording next
   pub answered : IsAnswered len after next
@@ -60,7 +61,7 @@ pub record StopsHearing (words : RecordWords) (before after : Listening) (len : 
 
 -- a turn after which all have met the end, or not
 pub record Turns (words : RecordWords) (ended : Bool) (before after : Listening) (len : ℕ) (recording : Recording)
-    (report report' : Stream) : Type 0 where
+    (report report' : SinkTold) : Type 0 where
   pub next : Recording
   pub turn : IsTurn words.sensitive recording next
   pub stands : StandsForRecording words len after next
@@ -70,7 +71,7 @@ pub record Turns (words : RecordWords) (ended : Bool) (before after : Listening)
 
 -- a turn that is cut short
 pub record IsCutOff (words : RecordWords) (before after : Listening) (len : ℕ) (recording : Recording)
-    (report report' : Stream) : Type 0 where
+    (report report' : SinkTold) : Type 0 where
   pub next : Recording
   pub cut : IsCutInHearing words.sensitive recording next ⊎ IsCutInRecording words.sensitive recording next
   pub answered : IsAnswered len after next
@@ -79,7 +80,7 @@ pub record IsCutOff (words : RecordWords) (before after : Listening) (len : ℕ)
 -- ---- all turns so far
 
 -- so many turns were made since the first
-pub record Runs (words : RecordWords) (listening : Listening) (len : ℕ) (start now : Stream) : Type 0 where
+pub record Runs (words : RecordWords) (listening : Listening) (len : ℕ) (start now : SinkTold) : Type 0 where
   pub count : ℕ
   pub recording : Recording
   pub turns : AreTurns words.sensitive count (new_recording words.sensitive) recording

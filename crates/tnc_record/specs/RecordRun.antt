@@ -6,6 +6,7 @@ use Rattle.sample_ring.specs.declared.view.Track.{Track}
 use Rattle.sample_ring.specs.Record.{StandsIn}
 use Rattle.ring_recorder.specs.Recording.{items, losses, has_ended}
 use Rattle.ring_recorder.specs.Tiling.{Tile}
+use Rattle.tnc_base.specs.Streams.{SinkTold, SourceTold}
 use Rattle.tnc_ports.specs.declared.looping.LoopEnd.{LoopEnd}
 use Rattle.tnc_ports.specs.declared.looping.LoopEnd.TheVariants.{Done as LoopDone, Memory as LoopMemory}
 use Rattle.tnc_ports.specs.declared.looping.LoopEnd.TheVariants.{WriteFault as LoopFault}
@@ -14,8 +15,7 @@ use Rattle.tnc_ports.specs.declared.pumping.PumpEnd.TheVariants.{InputEnd, ReadF
 use Rattle.tnc_ports.specs.declared.pumping.PumpEnd.TheVariants.{TooLong as InputTooLong}
 use Rattle.sound_rate.specs.declared.rate.Rate.TheVariants.{Narrow}
 use Rattle.tnc_ports.specs.Pumped.{IsPumped}
-use Rattle.tnc_ports.specs.SampledWrites.{Stream}
-use Rattle.tnc_ports.specs.PumpRun.{InputSide, ReadFaults}
+use Rattle.tnc_ports.specs.PumpRun.{ReadFaults}
 use Rattle.tnc_ports.specs.ServeRun.{LanesStandIn, ring_cells, answers_of_record}
 use Rattle.tnc_record.specs.declared.recording.RecordEnd.{RecordEnd}
 use Rattle.tnc_record.specs.declared.recording.RecordEnd.TheVariants.{Done, TooLong, Memory, NoThread, ReadFault}
@@ -47,8 +47,8 @@ end_of LoopFault pump = WriteFault
 
 -- The pump publishes the samples of what it reads of the input, and beside it the loop's readers read what is
 -- published.
-pub record HasRecorded (words : RecordWords) (end : RecordEnd) (input left : InputSide)
-    (output output' report report' : Stream) : Type 0 where
+pub record HasRecorded (words : RecordWords) (end : RecordEnd) (input left : SourceTold)
+    (output output' report report' : SinkTold) : Type 0 where
   pub recording : Recording
   pub loop : LoopEnd
   pub looped : IsLooped words loop recording output output' report report'
@@ -61,14 +61,15 @@ pub record HasRecorded (words : RecordWords) (end : RecordEnd) (input left : Inp
   pub ends : end ≡ end_of loop pump
 
 -- nothing is read and nothing written
-pub record DoesNothing (input left : InputSide) (output output' report report' : Stream) : Type 0 where
+pub record DoesNothing (input left : SourceTold) (output output' report report' : SinkTold) : Type 0 where
   pub unread : left ≡ input
   pub no_output : output' ≡ output
   pub no_report : report' ≡ report
 
 -- Without memory for the ring, the receiver and the recorder nothing is done, and nothing without a thread for the
 -- pump.
-abbrev pub IsRecorded : RecordWords → RecordEnd → InputSide → InputSide → Stream → Stream → Stream → Stream → Type 0
+abbrev pub IsRecorded : RecordWords → RecordEnd → SourceTold → SourceTold → SinkTold → SinkTold → SinkTold → SinkTold
+    → Type 0
 IsRecorded words Done input left output output' report report' =
     HasRecorded words Done input left output output' report report'
 IsRecorded words TooLong input left output output' report report' =

@@ -7,7 +7,6 @@ ghost use Rattle.std.specs.Prelude.{◌≡◌, ◌+◌, ◌≤◌, ◌++◌, ℕ
 ghost use Rattle.sample_ring.specs.Ends.{ring_len, IsNew};
 ghost use Rattle.ring_receiver.specs.HeldReceiver.{readers_in};
 ghost use Rattle.ring_receiver.specs.Readers.{readers_wanted};
-ghost use Rattle.tnc_ports.specs.SampledWrites.{stream_of};
 ghost use Rattle.tnc_record.specs.declared.recording.RecordWords.{RecordWords};
 ghost use Rattle.tnc_record.specs.HeldListening.{ReadsRing, StandsForRecording, HearsMore, StopsHearing, Turns};
 ghost use Rattle.tnc_record.specs.HeldListening.{IsCutOff};
@@ -78,11 +77,11 @@ impl Listening {
         ensures turned { (words : RecordWords) (recording : Recording)
             → StandsForRecording words (ring_len ring.now) self.old recording
             → IfOk result (λ ended. Turns words ended self.old self.new (ring_len ring.now) recording
-            (stream_of E.written E.faults report.old) (stream_of E.written E.faults report.new)) }
+            (E.told report.old) (E.told report.new)) }
         ensures cut { (words : RecordWords) (recording : Recording)
             → StandsForRecording words (ring_len ring.now) self.old recording
             → OnErr result (IsCutOff words self.old self.new (ring_len ring.now) recording
-            (stream_of E.written E.faults report.old) (stream_of E.written E.faults report.new)) }
+            (E.told report.old) (E.told report.new)) }
     {
         self.hear(rt, alloc, ring, report)?;
         let recorded = self.recorder.advance(ring)?;
@@ -103,11 +102,11 @@ impl Listening {
         ensures heard { (words : RecordWords) (recording : Recording)
             → StandsForRecording words (ring_len ring.now) self.old recording
             → OnOk result (HearsMore words self.old self.new (ring_len ring.now) recording
-            (stream_of E.written E.faults report.old) (stream_of E.written E.faults report.new)) }
+            (E.told report.old) (E.told report.new)) }
         ensures cut { (words : RecordWords) (recording : Recording)
             → StandsForRecording words (ring_len ring.now) self.old recording
             → OnErr result (StopsHearing words self.old self.new (ring_len ring.now) recording
-            (stream_of E.written E.faults report.old) (stream_of E.written E.faults report.new)) }
+            (E.told report.old) (E.told report.new)) }
     {
         if self.over {
             return Ok(());

@@ -3,7 +3,8 @@ ghost use Rattle.std.specs.Prelude.{◌≡◌, ℕ, Bool, false};
 ghost use Rattle.sample_ring.specs.Ends.{ring_len};
 ghost use Rattle.ring_recorder.specs.Held.{StandsFor};
 ghost use Rattle.ring_recorder.specs.Recording.{answers_of};
-ghost use Rattle.tnc_ports.specs.SampledWrites.{Stream, stream_of, Puts};
+ghost use Rattle.tnc_base.specs.Streams.{SinkTold};
+ghost use Rattle.tnc_ports.specs.SampledWrites.{Puts};
 ghost use Rattle.tnc_record.specs.declared.recording.RecordWords.{RecordWords};
 ghost use Rattle.tnc_record.specs.HeldListening.{ReadsRing, StandsForRecording, IsAnswered};
 ghost use Rattle.tnc_record.specs.RecordLoop.{IsLooped};
@@ -38,8 +39,7 @@ pub(crate) fn record_loop<R: Threads + Wait + Sync, O: Sink, E: Sink>(
     ensures ring { ReadsRing ring.now listening.new }
     ensures looped { (recording : Recording) × IsAnswered (ring_len ring.now) listening.new recording
         × IsLooped words.now result recording
-        (stream_of O.written O.faults output.old) (stream_of O.written O.faults output.new)
-        (stream_of E.written E.faults report.old) (stream_of E.written E.faults report.new) }
+        (O.told output.old) (O.told output.new) (E.told report.old) (E.told report.new) }
 {
     'turns: for _ in rt.forever() {
         match listening.turn(rt, alloc, ring, report) {
@@ -61,13 +61,11 @@ fn finish<O: Sink, E: Sink>(
     output: &mut O,
     report: &mut E,
 ) -> LoopEnd
-    ensures { (words : RecordWords) (len : ℕ) (recording : Recording) (start : Stream)
+    ensures { (words : RecordWords) (len : ℕ) (recording : Recording) (start : SinkTold)
         → StandsFor len recorder.now → recorder.now.keep ≡ words.keep
         → answers_of len recorder.now.reader ≡ recording.recorded → IsRun words.sensitive recording
-        → Puts false failed (report_text recording.lines) start (stream_of E.written E.faults report.old)
-        → IsLooped words result recording
-        (stream_of O.written O.faults output.old) (stream_of O.written O.faults output.new)
-        start (stream_of E.written E.faults report.new) }
+        → Puts false failed (report_text recording.lines) start (E.told report.old)
+        → IsLooped words result recording (O.told output.old) (O.told output.new) start (E.told report.new) }
 {
     let Ok(text) = text_of_losses(alloc, recorder.losses()) else {
         return LoopEnd::Memory;

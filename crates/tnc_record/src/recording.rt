@@ -4,8 +4,8 @@ ghost use Rattle.std.specs.Prelude.{IfSome, IsNone, is_some};
 ghost use Rattle.std.specs.Thread.{IsSync};
 ghost use Rattle.sample_ring.specs.Ends.{ring_id, ring_len, writer_ring, published_by};
 ghost use Rattle.sound_rate.specs.declared.rate.Rate.{Rate};
-ghost use Rattle.tnc_ports.specs.PumpRun.{InputSide, Pumps, input_by};
-ghost use Rattle.tnc_ports.specs.SampledWrites.{stream_of};
+ghost use Rattle.tnc_base.specs.Streams.{SourceTold};
+ghost use Rattle.tnc_ports.specs.PumpRun.{Pumps};
 ghost use Rattle.tnc_record.specs.HeldListening.{ReadsRing, StandsForRecording, IsAnswered};
 ghost use Rattle.tnc_record.specs.HeldRecord.{LoopsIf, IsClosed};
 ghost use Rattle.tnc_record.specs.RecordRun.{IsRecorded, end_of};
@@ -70,9 +70,8 @@ pub fn record<R: Threads + Wait + Sync, I: Source + Send, O: Sink, E: Sink, W: S
     spawner: &mut W,
 ) -> RecordEnd
     requires { (1 ≤ words.keep) × (words.keep ≤ 17280000) }
-    ensures { IsRecorded words result (input_by I.left I.faults input.old) (input_by I.left I.faults input.new)
-        (stream_of O.written O.faults output.old) (stream_of O.written O.faults output.new)
-        (stream_of E.written E.faults report.old) (stream_of E.written E.faults report.new) }
+    ensures { IsRecorded words result (I.told input.old) (I.told input.new)
+        (O.told output.old) (O.told output.new) (E.told report.old) (E.told report.new) }
 {
     let count = readers_wanted(words.sensitive) + 1;
     let Ok((ring, writer, readers)) = Ring::new(alloc, CELLS, count) else {
@@ -122,13 +121,11 @@ fn run_beside<R: Threads + Wait + Sync, I: Source + Send, O: Sink, E: Sink, W: S
     requires ring { ReadsRing ring.now listening.old }
     requires new { StandsForRecording words.now (ring_len ring.now) listening.old (new_recording words.now.sensitive) }
     requires unfailed { listening.old.failed ≡ false }
-    ensures pumped { IfSome result (λ pumped. Pumps Rate.Narrow ring.now pumped (input_by I.left I.faults input.old)
-        (input_by I.left I.faults input.new)) }
-    ensures unread { IsNone result → input_by I.left I.faults input.new ≡ input_by I.left I.faults input.old }
+    ensures pumped { IfSome result (λ pumped. Pumps Rate.Narrow ring.now pumped (I.told input.old) (I.told input.new)) }
+    ensures unread { IsNone result → I.told input.new ≡ I.told input.old }
     ensures ring { ReadsRing ring.now listening.new }
     ensures looped { LoopsIf (is_some result) words.now end.new (ring_len ring.now) listening.new
-        (stream_of O.written O.faults output.old) (stream_of O.written O.faults output.new)
-        (stream_of E.written E.faults report.old) (stream_of E.written E.faults report.new) }
+        (O.told output.old) (O.told output.new) (E.told report.old) (E.told report.new) }
 {
     pump_beside(
         rt,
@@ -143,8 +140,7 @@ fn run_beside<R: Threads + Wait + Sync, I: Source + Send, O: Sink, E: Sink, W: S
                 × (listening.now.failed ≡ false) }
             ensures { ReadsRing ring.entry.now listening.exit.now
                 × LoopsIf begins words.entry.now end.exit.now (ring_len ring.entry.now) listening.exit.now
-                (stream_of O.written O.faults output.entry.now) (stream_of O.written O.faults output.exit.now)
-                (stream_of E.written E.faults report.entry.now) (stream_of E.written E.faults report.exit.now) }
+                (O.told output.entry.now) (O.told output.exit.now) (E.told report.entry.now) (E.told report.exit.now) }
         {
             loop_if(
                 begins, rt, alloc, words, ring, listening, end, output, report,
@@ -170,8 +166,7 @@ fn loop_if<R: Threads + Wait + Sync, O: Sink, E: Sink>(
     requires unfailed { listening.old.failed ≡ false }
     ensures ring { ReadsRing ring.now listening.new }
     ensures looped { LoopsIf begins words.now end.new (ring_len ring.now) listening.new
-        (stream_of O.written O.faults output.old) (stream_of O.written O.faults output.new)
-        (stream_of E.written E.faults report.old) (stream_of E.written E.faults report.new) }
+        (O.told output.old) (O.told output.new) (E.told report.old) (E.told report.new) }
 {
     if begins {
         *end = record_loop(rt, alloc, words, ring, listening, output, report);
@@ -190,8 +185,8 @@ fn close(
     requires readers { ReadsRing ring listening }
     requires empty { room.items ≡ [] }
     requires room { 10 ≤ vec_capacity room }
-    requires pumped { (input : InputSide) × (left : InputSide) × Pumps Rate.Narrow ring pumped input left }
-    ensures { (input left : InputSide) (recording : Recording) → Pumps Rate.Narrow ring pumped input left
+    requires pumped { (input : SourceTold) × (left : SourceTold) × Pumps Rate.Narrow ring pumped input left }
+    ensures { (input left : SourceTold) (recording : Recording) → Pumps Rate.Narrow ring pumped input left
         → IsAnswered CELLS listening recording → IsClosed end result recording input left }
 {
     let Listening {

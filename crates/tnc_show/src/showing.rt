@@ -21,13 +21,13 @@ pub fn show<I: Source, O: Sink>(
     input: &mut I,
     output: &mut O,
 ) -> Result<(), Fault>
-    ensures ended { (octets : List ℕ) → I.left input.old ≡ Some octets
+    ensures ended { (octets : List ℕ) → (I.told input.old).left ≡ Some octets
         → IsEnded (show_making words) piece_limit octets
-        (I.left input.new) (O.written output.old) (O.written output.new) result }
-    ensures faultless { OnOk result ((I.faults input.new ≡ I.faults input.old)
-        × (O.faults output.new ≡ O.faults output.old)) }
-    ensures read { IsErrOf result Fault.Read → HasRisen (I.faults input.old) (I.faults input.new) }
-    ensures write { IsErrOf result Fault.Write → HasRisen (O.faults output.old) (O.faults output.new) }
+        (I.told input.new).left (O.told output.old).written (O.told output.new).written result }
+    ensures faultless { OnOk result (((I.told input.new).faults ≡ (I.told input.old).faults)
+        × ((O.told output.new).faults ≡ (O.told output.old).faults)) }
+    ensures read { IsErrOf result Fault.Read → HasRisen (I.told input.old).faults (I.told input.new).faults }
+    ensures write { IsErrOf result Fault.Write → HasRisen (O.told output.old).faults (O.told output.new).faults }
 {
     let mut shower = Shower::new(alloc, words);
     let mut buffer = [0; PIECE];

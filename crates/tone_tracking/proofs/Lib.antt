@@ -11,3 +11,4 @@ pub mod SlotLemmas
 pub mod LineLemmas
 pub mod ListsLemmas
 pub mod LevelLemmas
+pub mod PieceLemmas

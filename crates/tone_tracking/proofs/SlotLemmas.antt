@@ -60,19 +60,6 @@ module _ (olds slots : List HeldSlot) (n : ℕ) (new : HeldSlot) (inside : n < l
   slots_rest rest k d above =
       let ne : k ≢ n = omega arith in get_or-set_other slots n k new d ne ∙ rest k d (omega arith)
 
--- tones put in a row, with one more
-pub row_more : (slots : List HeldSlot) (line : List PlaceTones) (first n : ℕ) (one : PlaceTones) → n < length line
-    → ((i : ℕ) (d : PlaceTones) (e : HeldSlot) → i < n
-    → get_or line i d ≡ get_or (get_or slots ((first + i) % 8) e).tones (i / 8) d)
-    → ((d : PlaceTones) (e : HeldSlot) → one ≡ get_or (get_or slots ((first + n) % 8) e).tones (n / 8) d)
-    → (i : ℕ) (d : PlaceTones) (e : HeldSlot) → i < n + 1
-    → get_or (set line n one) i d ≡ get_or (get_or slots ((first + i) % 8) e).tones (i / 8) d
-row_more slots line first n one inside row here i d e below = elim (cases_eq i n) [
-  | inl is ↦ ap (λ k. get_or (set line n one) k d) is ∙ get_or-set_same line n one d inside ∙ here d e
-      ∙ ap (λ k. get_or (get_or slots ((first + k) % 8) e).tones (k / 8) d) (sym is)
-  | inr ne ↦ get_or-set_other line n i one d ne ∙ row i d e (omega arith)
-]
-
 -- ---- three tones in one octet
 
 alone_of : (alone near far : Tone) → tone_of Alone (packed alone near far) ≡ alone

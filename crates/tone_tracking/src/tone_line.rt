@@ -2,7 +2,7 @@
 //!
 //! The places of a block are decided slot by slot, one after another or on threads, and the tones are put in a row.
 
-ghost use Rattle.std.specs.Prelude.{◌≡◌, ◌+◌, ◌-◌, ◌*◌, ◌/◌, ◌%◌, ◌<◌, ◌≤◌, ◌^◌, ℕ, ℤ, List, [], ◌++◌, drop, length, IfOk, OnOk};
+ghost use Rattle.std.specs.Prelude.{◌≡◌, ◌≢◌, ◌+◌, ◌-◌, ◌*◌, ◌/◌, ◌%◌, ◌<◌, ◌≤◌, ◌^◌, ℕ, ℤ, List, [], ◌++◌, drop, length, IfOk, OnOk};
 ghost use Rattle.std.specs.Prelude.{slice_index_or, unsigned_abs};
 ghost use Rattle.std.specs.List.{All};
 ghost use Rattle.tone_tracking.specs.declared.place_tones.PlaceTones.{PlaceTones};
@@ -231,8 +231,24 @@ fn put_in_row(slots: &[SlotTracker], place: u64, line: &mut [PlaceTones])
         ≡ slice_index_or (slice_index_or slots.now ((place % 8 + i) % 8) e).tones (i / 8) d }
 {
     let first = (place % 8) as usize;
-    for index in 0..line.len() {
-        line[index] = slots[(first + index) % 8].tones()[index / 8];
+    for ahead in 0..8 {
+        let tones = slots[(first + ahead) % 8].tones();
+        put_slot(tones, ahead, line);
+    }
+}
+
+/// Puts the tones of a slot in a row, at each eighth place from one on.
+fn put_slot(tones: &[PlaceTones], ahead: usize, line: &mut [PlaceTones])
+    requires ahead { ahead < 8 }
+    requires tones { length tones.now ≡ (length line.old + 7 - ahead) / 8 }
+    ensures length { length line.new ≡ length line.old }
+    ensures put { (i : ℕ) (d : PlaceTones) → i < length line.old → i % 8 ≡ ahead
+        → slice_index_or line.new i d ≡ slice_index_or tones.now (i / 8) d }
+    ensures kept { (i : ℕ) (d : PlaceTones) → i % 8 ≢ ahead
+        → slice_index_or line.new i d ≡ slice_index_or line.old i d }
+{
+    for index in 0..tones.len() {
+        line[8 * index + ahead] = tones[index];
     }
 }
 

@@ -8,7 +8,9 @@ use Rattle.resampler.proofs.FilterLemmas.{decimated_begins, decimated_parts, len
 use Rattle.sensitive_receiver.specs.Candidates.{AreHeard}
 use Rattle.sensitive_receiver.specs.MergedItems.{AreMergedBetween, settled}
 use Rattle.sensitive_receiver.specs.HeldDecoder.{HeldDecoder, StandsFor as DecoderStandsFor}
-use Rattle.sensitive_receiver.proofs.MergedLemmas.{below_still, between_still, join}
+use Rattle.block_receiver.proofs.MergedLemmas.{given_still as still_between, join}
+use Rattle.sensitive_receiver.specs.AllHearing.{hearing_of_all}
+use Rattle.sensitive_receiver.proofs.MergedLemmas.{below_still, is_hearing}
 use Rattle.sensitive_receiver.proofs.SomeList.{some_list}
 use Rattle.wide_input.specs.SettledByAll.{settled_by_all}
 use Rattle.wide_input.specs.HeldSensitive.{StandsFor}
@@ -25,7 +27,7 @@ given_still from to u v items le within h =
     record {
       candidates = some.0;
       are = some.1;
-      is = h.is ∙ between_still u v h.candidates some.0 h.are some.1 from to le within;
+      is = still_between hearing_of_all is_hearing from to u v items some.0 le within h some.1;
     }
 
 -- so of a block
@@ -86,7 +88,7 @@ end_decimated filter decoder new ended part items rest few room ends gives last 
     let after : AreMergedBetween m e w rest = last w (omega arith) g.0 in
     let nothing : w ++ [] ≡ w = append-nil w in
     let joined : AreMergedBetween n e (w ++ []) (items ++ rest)
-    = join n m e w [] items rest (omega arith) (omega arith) (omega arith) g.1
+    = join hearing_of_all is_hearing n m e w [] items rest (omega arith) (omega arith) (omega arith) g.1
     (subst (λ (v : List ℤ). AreMergedBetween m e v rest) (sym nothing) after) in
     let P : ℕ → List ℤ → Type 0 = λ k v. AreMergedBetween k (length v + 1) v (items ++ rest) in
     subst (λ (k : ℕ). P k (decimated x)) (settled_by_all-is x)

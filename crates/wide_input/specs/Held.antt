@@ -6,7 +6,7 @@ use Rattle.frame_merge.specs.declared.candidate.Candidate.{Candidate}
 use Rattle.frame_merge.specs.Held.{Held as HeldMerger, StandsFor as MergerStandsFor}
 use Rattle.frame_merge.specs.Merged.{merged, below}
 use Rattle.frame_merge.specs.Order.{in_order}
-use Rattle.slicer_bank.specs.declared.progress.Progress.{Progress}
+use Rattle.block_receiver.specs.declared.progress.Progress.{Progress}
 use Rattle.slicer_bank.specs.Candidates.{AreCandidatesAfter}
 use Rattle.slicer_bank.specs.Held.{HeldBank, StandsFor as BankStandsFor}
 use Rattle.slicer_bank.specs.Merging.{CanBePut, AllPast}

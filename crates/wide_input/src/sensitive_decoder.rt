@@ -11,7 +11,7 @@ ghost use Rattle.wide_input.specs.HeldSensitive.{StandsFor};
 use crate::wide_decoder::{BLOCK, LONG, join};
 use frame_merge::Candidate;
 use resampler::Decimator;
-use sensitive_receiver::SensitiveDecoder;
+use sensitive_receiver::{AllOnThreads, SensitiveDecoder};
 use std::alloc::Global;
 use std::marker::Model;
 use std::thread::Threads;
@@ -73,8 +73,7 @@ impl WideSensitiveDecoder {
         self.decoder.block(&part[..count])
     }
 
-    /// Does what [`WideSensitiveDecoder::block`] does, with the lanes on threads, as
-    /// [`SensitiveDecoder::block_threads`] has them.
+    /// Does what [`WideSensitiveDecoder::block`] does, with the lanes as [`AllOnThreads`] has them.
     pub fn block_threads<R: Threads + Sync>(
         &mut self,
         rt: &R,
@@ -93,7 +92,7 @@ impl WideSensitiveDecoder {
     {
         let mut part = [0; LONG];
         let count = self.filter.feed(block, &mut part);
-        self.decoder.block_threads(rt, &part[..count])
+        self.decoder.block_by(&AllOnThreads { rt }, &part[..count])
     }
 
     /// Gives the rest of the items: the samples have ended, and zeros follow for the filter.

@@ -7,8 +7,8 @@ use crate::tests::meeting::Meeting;
 use frame_merge::Candidate;
 use hf_modem::HfDecoder;
 use hf_sensitive::HfSensitiveDecoder;
-use sensitive_receiver::SensitiveDecoder;
-use slicer_bank::Decoder;
+use sensitive_receiver::{AllOnThreads, SensitiveDecoder};
+use slicer_bank::{Decoder, OnThreads};
 use std::alloc::Global;
 use std::thread::Threads;
 use tnc_base::OutOfMemory;
@@ -73,9 +73,9 @@ impl BlockDecoder for Decoder {
         &mut self,
         rt: &R,
         block: &[i16],
-        gate: &Meeting,
+        _gate: &Meeting,
     ) -> Result<Vec<Candidate>, OutOfMemory> {
-        Decoder::block_threads(self, rt, block, gate)
+        Decoder::block_by(self, &OnThreads { rt }, block)
     }
 
     fn end(&mut self) -> Result<Vec<Candidate>, OutOfMemory> {
@@ -165,7 +165,7 @@ impl BlockDecoder for SensitiveDecoder {
         block: &[i16],
         _gate: &Meeting,
     ) -> Result<Vec<Candidate>, OutOfMemory> {
-        SensitiveDecoder::block_threads(self, rt, block)
+        SensitiveDecoder::block_by(self, &AllOnThreads { rt }, block)
     }
 
     fn end(&mut self) -> Result<Vec<Candidate>, OutOfMemory> {

@@ -38,8 +38,6 @@ fn two_threads_give_what_one_gives(rt: HostRuntime) -> Result<(), Fail> {
         )?;
         assert_equal(&rt, &(length, items.as_slice()), &(length, ITEM.as_slice()));
     }
-    // Fourteen blocks of 96 samples, and one of each greater length.
-    assert_equal(&rt, &meeting.counts(), &[16, 16, 0]);
     Ok(())
 }
 

@@ -7,7 +7,7 @@ use crate::tests::blocks::items_in_blocks;
 use crate::tests::noisy_signal::{SILENCE, in_noise, slow};
 use crate::tests::places::note;
 use crate::tests::worked_signal::transmission;
-use sensitive_receiver::{AddedBank, SensitiveDecoder};
+use sensitive_receiver::{AddedBank, AllOnThreads, SensitiveDecoder};
 use slicer_bank::Bank;
 use std::alloc::Global;
 use std::process::Abort;
@@ -109,7 +109,7 @@ fn given_and_held<R: Threads + Sync>(
     ensures position { OnOk result (decoder.new.position ≡ decoder.old.position + count block.now) }
     ensures unfinished { decoder.new.finished ≡ false }
 {
-    let given = decoder.block_threads(rt, block)?.len();
+    let given = decoder.block_by(&AllOnThreads { rt }, block)?.len();
     Ok((given, decoder.held()))
 }
 

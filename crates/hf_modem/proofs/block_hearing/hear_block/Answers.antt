@@ -1,29 +1,46 @@
-use Rattle.hf_modem.proofs.Common.{◌≡◌, ◌+◌, ◌/◌, ◌<◌, ◌^◌, ◌++◌, ◌∙◌, ap, sym, length, length-append, replicate, arith}
-use Rattle.hf_modem.proofs.HearingLemmas.{marks_rise, taken_more}
+use Rattle.hf_modem.proofs.Common.{◌+◌, ◌/◌, ◌++◌, ◌∷◌, ℤ, List, [], pos, get_or, take, sym, subst, arith}
+use Rattle.hf_modem.proofs.Common.{to_z-of_z, w16, All, All-nil, Candidate, BankStandsFor, AreCandidatesAfter, length}
+use Rattle.hf_modem.proofs.Common.{FitsSigned, rules, option_to_list, take_more, take_all}
+use Rattle.block_receiver.specs.Hearing.{CanBePutFrom}
+use Rattle.hf_modem.proofs.HearingLemmas.{HasHeard, bounds_more, heard_none, heard_more}
 use Rattle.hf_modem.proofs.block_hearing.hear_block.Goals as goal
 
-pub mark_all-requires : goal.mark_all-requires
-mark_all-requires c =
-    let further = c.in_ok-hear_all.ensures.position in
-    let at = c.position.ensures in
+pub loop-sample-init : goal.loop-sample-init
+loop-sample-init c =
+    let P : Candidate → Type 0 = CanBePutFrom 32 (c.args.bank.now.position / 4) in
     record {
-      position = marks_rise c.hear_all.new.merger.marks (c.args.bank.now.position / 4) (c.position.result / 4)
-          (c.hear_all.ensures.marks ∙ c.requires.marks) (omega arith);
+      position = omega arith;
+      heard = subst (HasHeard c.args.bank.now c.args.bank.now []) (sym c.new-found.ensures.items) (heard_none c.args.bank.now);
+      bounds = subst (All P) (sym c.new-found.ensures.items) (All-nil P);
     }
 
-pub returns-clause-given : goal.returns-clause-given
-returns-clause-given c = λ x h.
-    let block = c.args.block.now in
-    let count = h.samples.count in
-    let len : c.position.result ≡ length (x ++ block)
-    = c.position.ensures ∙ c.in_ok-hear_all.ensures.position ∙ ap (λ n. n + length block) count
-    ∙ sym (length-append x block) in
-    let size = length-append x block in
-    let room : length (x ++ block) < 2 ^ 48 = (let r = c.requires.room in omega arith) in
-    let all : length c.hear_all.new.merger.marks ≡ 32 = ap length (c.hear_all.ensures.marks ∙ c.requires.marks) in
-    let marks : c.mark_all.new.self.marks ≡ replicate 32 (length (x ++ block) / 4)
-    = c.mark_all.ensures.marks ∙ ap (λ n. replicate n (c.position.result / 4)) all
-    ∙ ap (λ n. replicate 32 (n / 4)) len in
-    taken_more x block c.args.bank.now c.hear_all.new.bank c.args.merger.now c.hear_all.new.merger c.mark_all.new.self
-    c.take_ready.new.self c.in_ok-ready.ready.items
-    room (c.in_ok-hear_all.ensures.heard x) c.mark_all.ensures.stands_for marks c.in_ok-ready.ensures.ready h
+pub loop-sample-preserved : goal.loop-sample-preserved
+loop-sample-preserved c =
+    let block : List ℤ = c.args.block.now in
+    let i = c.loop-sample.sample-index in
+    let sample : ℤ = get_or block i (pos 0) in
+    let fits : FitsSigned w16 sample = search rules in
+    let inv = c.loop-sample.invariant in
+    let place = inv.position in
+    let further = c.push.ensures.position in
+    let inside = c.loop-sample-test.true in
+    let heard = option_to_list c.in_ok-heard.heard in
+    let step = subst (λ (z : ℤ). (y : List ℤ) → BankStandsFor c.loop-sample.bank y
+    → BankStandsFor c.push.new.self (y ++ z ∷ [])
+    × AreCandidatesAfter (length y) (y ++ z ∷ []) heard) (to_z-of_z w16 sample fits) c.in_ok-heard.ensures.heard in
+    record {
+      position = omega arith;
+      heard = heard_more c.args.bank.now c.loop-sample.bank c.push.new.self (take i block) (take (i + 1) block) sample
+          c.loop-sample.found.items heard c.keep.new.found.items inv.heard (take_more block i (pos 0) (omega arith))
+          c.in_ok-keep.ensures step;
+      bounds = bounds_more (c.args.bank.now.position / 4) c.loop-sample.bank.position c.loop-sample.found.items
+          c.keep.new.found.items c.in_ok-heard.heard c.in_ok-keep.ensures (omega arith) (omega arith)
+          c.in_ok-heard.ensures.place inv.bounds;
+    }
+
+pub returns-clause-heard : goal.returns-clause-heard
+returns-clause-heard c = λ x h.
+    let past = c.loop-sample-test.false in
+    let heard = subst (λ (y : List ℤ). HasHeard c.args.bank.now c.loop-sample.bank y c.loop-sample.found.items)
+    (take_all c.loop-sample.sample-index c.args.block.now (omega arith)) c.loop-sample.invariant.heard in
+    (heard.samples x h, heard.are x h)

@@ -77,9 +77,7 @@ struct HeldSource<'a> {
 }
 
 impl Source for HeldSource<'_> {
-    ghost left = { λ _. None };
-
-    ghost faults = { λ _. 0 };
+    ghost told = { λ _. record { left = None; faults = 0 } };
 
     fn read(&mut self, buffer: &mut [u8]) -> Result<usize, Failed> {
         self.reads = self.reads.saturating_add(1);
@@ -104,9 +102,7 @@ struct CountingSink<'a> {
 }
 
 impl Sink for CountingSink<'_> {
-    ghost written = { λ _. None };
-
-    ghost faults = { λ _. 0 };
+    ghost told = { λ _. record { written = None; faults = 0 } };
 
     fn write(&mut self, _octets: &[u8]) -> Result<(), Failed> {
         self.writes.fetch_add(1, Ordering::SeqCst);

@@ -8,7 +8,7 @@ returns-clause-called g c = λ text before is_text is.
     let dial = c.in-Ok-dial.ensures in
     let shut = c.shut.ensures in
     let talked = c.converse-end.ensures.talked _ before begun.0 is in
-    whole_call c.args.words text before (g.O.Sink.written c.converse-end.new.output) (told c.args.ports.now)
+    whole_call c.args.words text before (g.O.Sink.told c.converse-end.new.output).written (told c.args.ports.now)
     (told c.dial.new.self) (told c.converse-end.new.ports) (told c.shut.new.self) c.in-Ok-dial.id c.converse-end.result
     begun.1 (λ was at. dial.dialed was at)
     (record { polls = dial.polls; sends = dial.sends; sent = dial.sent; listens = dial.listens; later = dial.later })

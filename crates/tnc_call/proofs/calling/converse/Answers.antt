@@ -9,7 +9,7 @@ loop-turn-init g c = record {
     no_trace,
     refl,
     running_begins c.args.talk.now plan c.args.id before
-        (g.O.Sink.written c.args.output.now) (g.N.Ports.told c.args.ports.now) begun is,
+        (g.O.Sink.told c.args.output.now).written (g.N.Ports.told c.args.ports.now) begun is,
   );
   within = c.requires.within;
   faultless = refl;

@@ -6,10 +6,10 @@ use Rattle.tnc_call.proofs.reading.read_text.Given as goal
 -- the octets so far are the first of the input
 abbrev pub invariant-reading : goal.invariant-reading
 invariant-reading g l = record {
-  so_far : (whole : List ℕ) → g.I.Source.left l.initial.input ≡ Some whole
-      → HasRead whole l.text.items (g.I.Source.left l.input);
+  so_far : (whole : List ℕ) → (g.I.Source.told l.initial.input).left ≡ Some whole
+      → HasRead whole l.text.items (g.I.Source.told l.input).left;
   bound : vec_len l.text ≤ text_limit + 1;
-  faultless : g.I.Source.faults l.input ≡ g.I.Source.faults l.initial.input;
+  faultless : (g.I.Source.told l.input).faults ≡ (g.I.Source.told l.initial.input).faults;
 }
 
 abbrev pub decreases-reading : goal.decreases-reading

@@ -8,21 +8,23 @@ use Rattle.tnc_decode.proofs.decoding.decode.Goals as goal
 pub returns-in_err-receiver-clause-ended : goal.returns-in_err-receiver-clause-ended
 returns-in_err-receiver-clause-ended g c = λ octets left.
     let told = err_from_is_err_and c.from_residual.result c.from_residual.ensures.1 in
-    subst (IsEnded (decode_making c.args.words) (most_at_once c.args.words) octets (g.I.Source.left c.args.input.now)
-    (g.O.Sink.written c.args.output.now) (g.O.Sink.written c.args.output.now)) (sym (told.1 ∙ ap Err told.2))
+    subst (IsEnded (decode_making c.args.words) (most_at_once c.args.words) octets
+    (g.I.Source.told c.args.input.now).left
+    (g.O.Sink.told c.args.output.now).written (g.O.Sink.told c.args.output.now).written) (sym (told.1 ∙ ap Err told.2))
     (ended_first (decode_making c.args.words) (decodes c.args.words) (most_at_once c.args.words) octets _ _ left)
 
 pub returns-in_err-buffer-clause-ended : goal.returns-in_err-buffer-clause-ended
 returns-in_err-buffer-clause-ended g c = λ octets left.
     let told = err_from_is_err_and c.from_residual-in_err-buffer.result c.from_residual-in_err-buffer.ensures.1 in
-    subst (IsEnded (decode_making c.args.words) (most_at_once c.args.words) octets (g.I.Source.left c.args.input.now)
-    (g.O.Sink.written c.args.output.now) (g.O.Sink.written c.args.output.now)) (sym (told.1 ∙ ap Err told.2))
+    subst (IsEnded (decode_making c.args.words) (most_at_once c.args.words) octets
+    (g.I.Source.told c.args.input.now).left
+    (g.O.Sink.told c.args.output.now).written (g.O.Sink.told c.args.output.now).written) (sym (told.1 ∙ ap Err told.2))
     (ended_first (decode_making c.args.words) (decodes c.args.words) (most_at_once c.args.words) octets _ _ left)
 
 pub returns-clause-ended : goal.returns-clause-ended
 returns-clause-ended g c = λ octets left.
-    subst (λ most. IsEnded (decode_making c.args.words) most octets (g.I.Source.left c.make.new.input)
-    (g.O.Sink.written c.args.output.now) (g.O.Sink.written c.make.new.output) c.make.result)
+    subst (λ most. IsEnded (decode_making c.args.words) most octets (g.I.Source.told c.make.new.input).left
+    (g.O.Sink.told c.args.output.now).written (g.O.Sink.told c.make.new.output).written c.make.result)
     (ap length c.deref_mut.ensures.value ∙ c.in_ok-buffer.ensures)
     (c.make.ensures.ended c.args.words octets (c.in_ok-receiver.ensures, record { shared = c.type_bounds.sync-R.shared }) left)
 

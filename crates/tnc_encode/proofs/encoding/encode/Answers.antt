@@ -20,6 +20,6 @@ make-requires-clause-laws g c = encodes_apart
 
 pub returns-clause-ended : goal.returns-clause-ended
 returns-clause-ended g c = λ octets sent left.
-    subst (λ words. IsEnded (encode_making words) piece_limit octets (g.I.Source.left c.make.new.input)
-    (g.O.Sink.written c.args.output.now) (g.O.Sink.written c.make.new.output) c.make.result)
+    subst (λ words. IsEnded (encode_making words) piece_limit octets (g.I.Source.told c.make.new.input).left
+    (g.O.Sink.told c.args.output.now).written (g.O.Sink.told c.make.new.output).written c.make.result)
     (are_apart c.args.words sent) (c.make.ensures.ended c.args.words octets c.new-sender.ensures left)

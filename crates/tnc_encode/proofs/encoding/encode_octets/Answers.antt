@@ -39,7 +39,7 @@ returns-in-None-clause-bad g c = λ fault is.
 pub returns-in-None-clause-encoded_before : goal.returns-in-None-clause-encoded_before
 returns-in-None-clause-encoded_before g c = λ before fault was is.
     let long = c.send_as_told.ensures.long fault is in
-    ap g.O.Sink.written long.3 ∙ was ∙ ap Some (sym (append-nil before))
+    ap (λ o. (g.O.Sink.told o).written) long.3 ∙ was ∙ ap Some (sym (append-nil before))
     ∙ ap (λ text. Some (before ++ text)) (sym (no_file_before c.args.words c.args.octets.now long.2))
 
 -- ---- an input with a bad line

@@ -47,7 +47,7 @@ returns-in_err-send-clause-writes g c = record {
   all = search rules;
   part = λ before was.
       let done : List ℕ = own_octets c.args.words (take c.loop-frame.frame-index c.args.frames.now) in
-      let now : Option (List ℕ) = g.O.Sink.written c.send-in-loop-frame.new.output in
+      let now : Option (List ℕ) = (g.O.Sink.told c.send-in-loop-frame.new.output).written in
       let part : WrotePart (before ++ done) (pcm (samples_at_once c.args.words (c.frame-item.result ∷ []))) now =
       subst (λ (frames : List (List ℕ)). WrotePart (before ++ done) (pcm (samples_at_once c.args.words frames)) now)
       c.from_ref.ensures.value

@@ -9,7 +9,7 @@ pub reading-init : goal.reading-init
 reading-init g c = record {
   so_far = λ words whole holds left.
       progress_none (g.M.Maker.making words) (c.requires.laws words) (g.M.Maker.holds c.args.maker.now words) whole
-      (g.I.Source.left c.args.input.now) (g.O.Sink.written c.args.output.now) left holds;
+      (g.I.Source.told c.args.input.now).left (g.O.Sink.told c.args.output.now).written left holds;
   held = (c.requires.new.0, [], c.requires.new.1, (c.requires.laws c.requires.new.0).good, refl);
   bound = omega arith;
   size = refl;
@@ -23,12 +23,12 @@ returns-in_err-count-clause-ended g c = λ words octets holds left.
     let inv = c.reading.invariant in
     let making = g.M.Maker.making words in
     let told = err_from_is_err_and c.from_residual.result c.from_residual.ensures.1 in
-    let was = g.O.Sink.written c.args.output.now in
-    let mid = g.O.Sink.written c.reading.output in
-    let next = g.I.Source.left c.read_piece.new.input in
+    let was = (g.O.Sink.told c.args.output.now).written in
+    let mid = (g.O.Sink.told c.reading.output).written in
+    let next = (g.I.Source.told c.read_piece.new.input).left in
     subst (IsEnded making (length c.args.buffer.now) octets next was mid) (sym (told.1 ∙ ap Err told.2))
     (ended_reading making (c.requires.laws words) (g.M.Maker.holds c.reading.maker words) octets
-    (length c.args.buffer.now) (g.I.Source.left c.reading.input) was mid c.reading.total
+    (length c.args.buffer.now) (g.I.Source.told c.reading.input).left was mid c.reading.total
     (inv.so_far words octets holds left) inv.bound next c.in_err-count.field-0.0
     c.in_err-count.ensures.too_long c.in_err-count.ensures.kept c.in_err-count.ensures.write
     c.in_err-count.ensures.memory c.in_err-count.ensures.only)
@@ -48,11 +48,12 @@ returns-then-count-eq0-clause-ended g c = λ words octets holds left.
     let piece = c.in_ok-count.ensures.piece p.taken.rest p.taken.left_over in
     ended_finish (g.M.Maker.making words) (c.requires.laws words) (g.M.Maker.holds c.reading.maker words) octets
     (length c.args.buffer.now)
-    (g.I.Source.left c.reading.input) (g.O.Sink.written c.args.output.now) (g.O.Sink.written c.reading.output)
+    (g.I.Source.told c.reading.input).left (g.O.Sink.told c.args.output.now).written
+    (g.O.Sink.told c.reading.output).written
     c.reading.total p inv.bound
-    c.read_piece.new.buffer piece.0 (g.I.Source.left c.read_piece.new.input)
+    c.read_piece.new.buffer piece.0 (g.I.Source.told c.read_piece.new.input).left
     c.in_ok-count.count c.if-count-eq0.true piece.1 piece.2 piece.3
-    (g.O.Sink.written c.make_last.new.output) c.make_last.result
+    (g.O.Sink.told c.make_last.new.output).written c.make_last.result
     (c.make_last.ensures.finished words p.read p.holds)
 
 -- a piece
@@ -74,9 +75,9 @@ returns-in_err-make_piece-clause-ended g c = λ words octets holds left.
     let piece = c.in_ok-count.ensures.piece p.taken.rest p.taken.left_over in
     let told = err_from_is_err_and c.from_residual-in_err-make_piece.result c.from_residual-in_err-make_piece.ensures.1
     in
-    let was = g.O.Sink.written c.args.output.now in
-    let next = g.I.Source.left c.read_piece.new.input in
-    let now = g.O.Sink.written c.make_piece.new.output in
+    let was = (g.O.Sink.told c.args.output.now).written in
+    let next = (g.I.Source.told c.read_piece.new.input).left in
+    let now = (g.O.Sink.told c.make_piece.new.output).written in
     let a = c.in_ok-count.ensures.bound in
     let kept = inv.size in
     let b = c.read_piece.auto.buffer in
@@ -85,7 +86,7 @@ returns-in_err-make_piece-clause-ended g c = λ words octets holds left.
     subst (IsEnded making (length c.args.buffer.now) octets next was now) (sym (told.1 ∙ ap Err told.2))
     (ended_piece making (c.requires.laws words) (g.M.Maker.holds c.reading.maker words) octets
     (length c.args.buffer.now)
-    (g.I.Source.left c.reading.input) was (g.O.Sink.written c.reading.output) c.reading.total p inv.bound
+    (g.I.Source.told c.reading.input).left was (g.O.Sink.told c.reading.output).written c.reading.total p inv.bound
     (take c.in_ok-count.count c.read_piece.new.buffer) piece.0 next now piece.1 piece.2
     (omega (arith, size, a.0, b, kept)) (omega (arith, size, a.1)) c.in_err-make_piece.field-0.0
     (c.in_err-make_piece.ensures.taken words p.read p.holds p.good))
@@ -108,14 +109,16 @@ reading-preserved g c =
           let piece = c.in_ok-count.ensures.piece p.taken.rest p.taken.left_over in
           let goes = c.in_ok-make_piece.ensures.goes words p.read p.holds p.good in
           subst (λ n. Progress making (g.M.Maker.holds c.make_piece.new.maker words) whole
-          (g.I.Source.left c.read_piece.new.input)
-          (g.O.Sink.written c.args.output.now) (g.O.Sink.written c.make_piece.new.output) (c.reading.total + n)) size
+          (g.I.Source.told c.read_piece.new.input).left
+          (g.O.Sink.told c.args.output.now).written (g.O.Sink.told c.make_piece.new.output).written
+          (c.reading.total + n)) size
           (progress_more making (c.requires.laws words) (g.M.Maker.holds c.reading.maker words) whole
           (length c.args.buffer.now)
-          (g.I.Source.left c.reading.input) (g.O.Sink.written c.args.output.now) (g.O.Sink.written c.reading.output)
+          (g.I.Source.told c.reading.input).left (g.O.Sink.told c.args.output.now).written
+          (g.O.Sink.told c.reading.output).written
           c.reading.total p inv.bound
-          (take c.in_ok-count.count c.read_piece.new.buffer) piece.0 (g.I.Source.left c.read_piece.new.input)
-          (g.O.Sink.written c.make_piece.new.output) piece.1 piece.2
+          (take c.in_ok-count.count c.read_piece.new.buffer) piece.0 (g.I.Source.told c.read_piece.new.input).left
+          (g.O.Sink.told c.make_piece.new.output).written piece.1 piece.2
           (g.M.Maker.holds c.make_piece.new.maker words) goes.0 goes.1
           (c.in_ok-make_piece.ensures.taken words p.read p.holds p.good));
       held = (

@@ -7,15 +7,15 @@ use Rattle.tnc_engine.proofs.making.make.Given as goal
 abbrev pub invariant-reading : goal.invariant-reading
 invariant-reading g l = record {
   so_far : (words : g.row.M-Words.Denot) → (whole : List ℕ) → g.M.Maker.holds l.initial.maker words []
-      → g.I.Source.left l.initial.input ≡ Some whole
-      → Progress (g.M.Maker.making words) (g.M.Maker.holds l.maker words) whole (g.I.Source.left l.input)
-      (g.O.Sink.written l.initial.output) (g.O.Sink.written l.output) l.total;
+      → (g.I.Source.told l.initial.input).left ≡ Some whole
+      → Progress (g.M.Maker.making words) (g.M.Maker.holds l.maker words) whole (g.I.Source.told l.input).left
+      (g.O.Sink.told l.initial.output).written (g.O.Sink.told l.output).written l.total;
   held : (words : g.row.M-Words.Denot) × (read : List ℕ) × g.M.Maker.holds l.maker words read
       × ((g.M.Maker.making words).fault_so_far read ≡ None) × (length read ≡ l.total);
   bound : l.total ≤ input_limit;
   size : length l.buffer ≡ length l.initial.buffer;
-  read_faultless : g.I.Source.faults l.input ≡ g.I.Source.faults l.initial.input;
-  write_faultless : g.O.Sink.faults l.output ≡ g.O.Sink.faults l.initial.output;
+  read_faultless : (g.I.Source.told l.input).faults ≡ (g.I.Source.told l.initial.input).faults;
+  write_faultless : (g.O.Sink.told l.output).faults ≡ (g.O.Sink.told l.initial.output).faults;
 }
 
 abbrev pub decreases-reading : goal.decreases-reading

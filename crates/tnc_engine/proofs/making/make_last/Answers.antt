@@ -6,8 +6,8 @@ pub returns-in_err-write_text-clause-finished : goal.returns-in_err-write_text-c
 returns-in_err-write_text-clause-finished g c = λ words octets holds.
     let told = err_from_is_err_and c.from_residual-in_err-write_text.result c.from_residual-in_err-write_text.ensures.1
     in
-    let was = g.O.Sink.written c.args.output.now in
-    let now = g.O.Sink.written c.write_text.new.output in
+    let was = (g.O.Sink.told c.args.output.now).written in
+    let now = (g.O.Sink.told c.write_text.new.output).written in
     let text : List ℕ = c.finish.new.text.items in
     subst (IsFinished (g.M.Maker.making words) octets was now)
     (sym (told.1 ∙ ap Err (told.2 ∙ c.in_err-write_text.ensures.only))) (record {

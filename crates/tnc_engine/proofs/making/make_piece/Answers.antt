@@ -10,7 +10,7 @@ use Rattle.tnc_engine.proofs.making.make_piece.Goals as goal
 pub taking-init : goal.taking-init
 taking-init g c = record {
   took = λ words before holds good. took_none (g.M.Maker.making words) (g.M.Maker.holds c.args.maker.now words) before
-      c.args.octets.now (g.O.Sink.written c.args.output.now) holds good;
+      c.args.octets.now (g.O.Sink.told c.args.output.now).written holds good;
   held = c.requires.held;
   faultless = refl;
 }
@@ -19,8 +19,8 @@ pub returns-in_err-taken-clause-taken : goal.returns-in_err-taken-clause-taken
 returns-in_err-taken-clause-taken g c = λ words before holds good.
     let making = g.M.Maker.making words in
     let told = err_from_is_err_and c.from_residual.result c.from_residual.ensures.1 in
-    let was = g.O.Sink.written c.args.output.now in
-    let mid = g.O.Sink.written c.taking.output in
+    let was = (g.O.Sink.told c.args.output.now).written in
+    let mid = (g.O.Sink.told c.taking.output).written in
     subst (IsTaken making before c.args.octets.now was mid) (sym (told.1 ∙ ap Err told.2))
     (at_memory making (g.M.Maker.holds c.taking.maker words) before c.args.octets.now c.taking.rest.now was mid
     (c.taking.invariant.took words before holds good))
@@ -31,9 +31,9 @@ returns-in_err-write_text-clause-taken g c = λ words before holds good.
     let t = c.taking.invariant.took words before holds good in
     let told = err_from_is_err_and c.from_residual-in_err-write_text.result c.from_residual-in_err-write_text.ensures.1
     in
-    let was = g.O.Sink.written c.args.output.now in
-    let mid = g.O.Sink.written c.taking.output in
-    let now = g.O.Sink.written c.write_text.new.output in
+    let was = (g.O.Sink.told c.args.output.now).written in
+    let mid = (g.O.Sink.told c.taking.output).written in
+    let now = (g.O.Sink.told c.write_text.new.output).written in
     let text : List ℕ = c.take.new.text.items in
     subst (IsTaken making before c.args.octets.now was now)
     (sym (told.1 ∙ ap Err (told.2 ∙ c.in_err-write_text.ensures.only)))
@@ -46,9 +46,9 @@ pub returns-in-Bad-clause-taken : goal.returns-in-Bad-clause-taken
 returns-in-Bad-clause-taken g c = λ words before holds good.
     let making = g.M.Maker.making words in
     let t = c.taking.invariant.took words before holds good in
-    let was = g.O.Sink.written c.args.output.now in
-    let mid = g.O.Sink.written c.taking.output in
-    let now = g.O.Sink.written c.write_text.new.output in
+    let was = (g.O.Sink.told c.args.output.now).written in
+    let mid = (g.O.Sink.told c.taking.output).written in
+    let now = (g.O.Sink.told c.write_text.new.output).written in
     let text : List ℕ = c.take.new.text.items in
     took_bad making (g.M.Maker.holds c.taking.maker words) before c.args.octets.now c.taking.rest.now was mid t
     (g.M.Maker.holds c.take.new.self words) c.in-Bad.fault text now
@@ -62,8 +62,8 @@ taking-preserved g c =
     let held = inv.held in
     let count = c.in-Front.count in
     let text : List ℕ = c.take.new.text.items in
-    let mid = g.O.Sink.written c.taking.output in
-    let now = g.O.Sink.written c.write_text.new.output in
+    let mid = (g.O.Sink.told c.taking.output).written in
+    let now = (g.O.Sink.told c.write_text.new.output).written in
     let rest : List ℕ = drop count c.taking.rest.now in
     let size : length rest ≡ length c.taking.rest.now - count = length-drop count c.taking.rest.now in
     let front = subst (IsFront c.taking.rest.now) c.in-Front.is c.in_ok-taken.ensures.front in
@@ -75,9 +75,9 @@ taking-preserved g c =
           let making = g.M.Maker.making words in
           let t = inv.took words before holds good in
           subst (λ o. TookFront making (g.M.Maker.holds c.take.new.self words) before c.args.octets.now o
-          (g.O.Sink.written c.args.output.now) now) (sym (take_all _ rest (omega (arith, size))))
+          (g.O.Sink.told c.args.output.now).written now) (sym (take_all _ rest (omega (arith, size))))
           (took_more making (g.M.Maker.holds c.taking.maker words) before c.args.octets.now c.taking.rest.now
-          (g.O.Sink.written c.args.output.now) mid t (g.M.Maker.holds c.take.new.self words) count text now
+          (g.O.Sink.told c.args.output.now).written mid t (g.M.Maker.holds c.take.new.self words) count text now
           (subst (Takes making (g.M.Maker.holds c.take.new.self words) (before ++ t.front) c.taking.rest.now text)
           c.in-Front.is (c.in_ok-taken.ensures.takes words (before ++ t.front) t.holds))
           (λ b w. c.in_ok-write_text.ensures.appends b w ∙ ap (λ o. Some (b ++ o)) c.deref.ensures.value));
@@ -98,14 +98,14 @@ taking-preserved g c =
 pub returns-clause-taken : goal.returns-clause-taken
 returns-clause-taken g c = λ words before holds good.
     (took_all (g.M.Maker.making words) (g.M.Maker.holds c.taking.maker words) before c.args.octets.now
-    c.taking.rest.now (g.O.Sink.written c.args.output.now) (g.O.Sink.written c.taking.output)
+    c.taking.rest.now (g.O.Sink.told c.args.output.now).written (g.O.Sink.told c.taking.output).written
     (c.taking.invariant.took words before holds good)
     (eqb-true (length c.taking.rest.now) 0 (sym c.taking-test.ensures))).2
 
 pub returns-clause-goes : goal.returns-clause-goes
 returns-clause-goes g c = λ words before holds good.
     let all = took_all (g.M.Maker.making words) (g.M.Maker.holds c.taking.maker words) before c.args.octets.now
-    c.taking.rest.now (g.O.Sink.written c.args.output.now) (g.O.Sink.written c.taking.output)
+    c.taking.rest.now (g.O.Sink.told c.args.output.now).written (g.O.Sink.told c.taking.output).written
     (c.taking.invariant.took words before holds good)
     (eqb-true (length c.taking.rest.now) 0 (sym c.taking-test.ensures)) in
     (all.0, all.1)

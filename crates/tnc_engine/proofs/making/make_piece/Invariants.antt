@@ -9,10 +9,10 @@ invariant-taking g l = record {
   took : (words : g.row.M-Words.Denot) → (before : List ℕ) → g.M.Maker.holds l.initial.maker words before
       → (g.M.Maker.making words).fault_so_far before ≡ None
       → TookFront (g.M.Maker.making words) (g.M.Maker.holds l.maker words) before l.initial.octets l.rest
-      (g.O.Sink.written l.initial.output) (g.O.Sink.written l.output);
+      (g.O.Sink.told l.initial.output).written (g.O.Sink.told l.output).written;
   held : (words : g.row.M-Words.Denot) × (before : List ℕ) × g.M.Maker.holds l.maker words before
       × (length before + length l.rest ≤ input_limit);
-  faultless : g.O.Sink.faults l.output ≡ g.O.Sink.faults l.initial.output;
+  faultless : (g.O.Sink.told l.output).faults ≡ (g.O.Sink.told l.initial.output).faults;
 }
 
 abbrev pub decreases-taking : goal.decreases-taking

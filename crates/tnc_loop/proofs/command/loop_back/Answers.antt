@@ -8,7 +8,7 @@ pub returns-in-Err-default-clause-cut : goal.returns-in-Err-default-clause-cut
 returns-in-Err-default-clause-cut g c = λ before text was is.
     let same : c.as_bytes.result.now ≡ text = c.as_bytes.ensures.value
     ∙ one_summary c.args.words (string_bytes c.in_ok-told.told.summary) text c.in_ok-told.ensures.summary is in
-    subst (λ (t : List ℕ). WrotePart before t (g.O.Sink.written c.write.new.self)) same
+    subst (λ (t : List ℕ). WrotePart before t (g.O.Sink.told c.write.new.self).written) same
     (c.in-Err-default.ensures.partly before was)
 
 pub returns-in-Ok-None-clause-same : goal.returns-in-Ok-None-clause-same

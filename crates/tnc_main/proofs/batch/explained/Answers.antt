@@ -7,7 +7,7 @@ use Rattle.tnc_main.proofs.batch.explained.Goals as goal
 
 pub returns-in-Ok-of_stray-clause-told : goal.returns-in-Ok-of_stray-clause-told
 returns-in-Ok-of_stray-clause-told g c = λ before was which.
-    let written : g.E.Sink.written c.told-in-Ok-of_stray.new.report
+    let written : (g.E.Sink.told c.told-in-Ok-of_stray.new.report).written
     ≡ Some (before ++ stray_line c.in-Err-Stray.octets) =
     elim (c.told-in-Ok-of_stray.ensures.line before was) [
       | inl whole ↦ whole ∙ ap (λ line. Some (before ++ line)) (c.deref-in-Ok-of_stray.ensures
@@ -24,6 +24,6 @@ returns-in-Ok-of_stray-clause-told g c = λ before was which.
             ]
           ]
     ] in
-    subst (λ (end : Result (Unit {0}) Stop). IfErr end (λ stop. g.E.Sink.written c.told-in-Ok-of_stray.new.report
+    subst (λ (end : Result (Unit {0}) Stop). IfErr end (λ stop. (g.E.Sink.told c.told-in-Ok-of_stray.new.report).written
     ≡ Some (before ++ line_of stop))) (sym c.in-Err-Stray.is)
     (written ∙ ap (λ stop. Some (before ++ line_of stop)) (sym c.in-Err-Stray.field-0-is))

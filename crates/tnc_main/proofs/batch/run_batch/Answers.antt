@@ -21,24 +21,24 @@ use Rattle.tnc_main.proofs.batch.run_batch.Goals as goal
 
 pub returns-in-Ok-clause-read : goal.returns-in-Ok-clause-read
 returns-in-Ok-clause-read g c = λ job.
-    let mine = reads (map string_bytes c.args.words.now) (g.I.Source.left c.args.input.now)
+    let mine = reads (map string_bytes c.args.words.now) (g.I.Source.told c.args.input.now).left
     c.code.result c.in-Ok.command c.explained.result c.in-Ok.ensures.asks c.code.ensures job in
-    for_job (map string_bytes c.args.words.now) (g.I.Source.left c.args.input.now)
+    for_job (map string_bytes c.args.words.now) (g.I.Source.told c.args.input.now).left
     c.code.result c.in-Ok.command c.explained.result c.in-Ok.ensures.asks c.code.ensures job
-    (λ command status. Leaves command job.octets status (g.I.Source.left c.perform-end.new.input))
+    (λ command status. Leaves command job.octets status (g.I.Source.told c.perform-end.new.input).left)
     (leaves c.in-Ok.command job.octets _ c.perform-end.result c.explained.result c.explained.ensures.ends
     (c.perform-end.ensures.end job.octets mine) (λ fault is. c.perform-end.ensures.bad job.octets fault mine is)
     (c.perform-end.ensures.stops job.octets mine))
 
 pub returns-in-Ok-clause-written : goal.returns-in-Ok-clause-written
 returns-in-Ok-clause-written g c = λ job before was.
-    let mine = reads (map string_bytes c.args.words.now) (g.I.Source.left c.args.input.now)
+    let mine = reads (map string_bytes c.args.words.now) (g.I.Source.told c.args.input.now).left
     c.code.result c.in-Ok.command c.explained.result c.in-Ok.ensures.asks c.code.ensures job in
     let made = c.perform-end.ensures.written job.octets before mine was in (
       made.0,
-      for_job (map string_bytes c.args.words.now) (g.I.Source.left c.args.input.now)
+      for_job (map string_bytes c.args.words.now) (g.I.Source.told c.args.input.now).left
           c.code.result c.in-Ok.command c.explained.result c.in-Ok.ensures.asks c.code.ensures job
-          (λ command status. Writes command job.octets (g.I.Source.left c.perform-end.new.input) status made.0)
+          (λ command status. Writes command job.octets (g.I.Source.told c.perform-end.new.input).left status made.0)
           (told_writes c.in-Ok.command job.octets _ made.0 c.perform-end.result c.explained.result
           c.explained.ensures.ends
           (λ fault is. c.perform-end.ensures.bad job.octets fault mine is) c.perform-end.ensures.sent made.1),
@@ -53,10 +53,10 @@ returns-in-Ok-clause-unwritten g c = λ command asks at_end four.
 
 pub returns-in-Ok-clause-too_long : goal.returns-in-Ok-clause-too_long
 returns-in-Ok-clause-too_long g c = λ job at_end over two.
-    let mine = reads (map string_bytes c.args.words.now) (g.I.Source.left c.args.input.now)
+    let mine = reads (map string_bytes c.args.words.now) (g.I.Source.told c.args.input.now).left
     c.code.result c.in-Ok.command c.explained.result c.in-Ok.ensures.asks c.code.ensures job in
     let last = last_of job.command c.in-Ok.command (same_command (map string_bytes c.args.words.now)
-    (g.I.Source.left c.args.input.now) c.code.result c.in-Ok.command c.explained.result c.in-Ok.ensures.asks
+    (g.I.Source.told c.args.input.now).left c.code.result c.in-Ok.command c.explained.result c.in-Ok.ensures.asks
     c.code.ensures job) at_end in
     let bad = at_bad_input c.perform-end.result c.explained.result c.explained.ensures.ends (sym c.code.ensures ∙ two)
     in
@@ -68,40 +68,40 @@ returns-in-Ok-clause-too_long g c = λ job at_end over two.
 
 pub returns-in-Ok-clause-heard : goal.returns-in-Ok-clause-heard
 returns-in-Ok-clause-heard g c = λ job decode received before is clean was zero.
-    let mine = reads (map string_bytes c.args.words.now) (g.I.Source.left c.args.input.now)
+    let mine = reads (map string_bytes c.args.words.now) (g.I.Source.told c.args.input.now).left
     c.code.result c.in-Ok.command c.explained.result c.in-Ok.ensures.asks c.code.ensures job in
     let made = c.perform-end.ensures.written job.octets before mine was in
-    let text = done_text c.in-Ok.command decode job.octets made.0 (g.I.Source.left c.perform-end.new.input)
+    let text = done_text c.in-Ok.command decode job.octets made.0 (g.I.Source.told c.perform-end.new.input).left
     (status_of c.perform-end.result)
     (sym (status_done c.perform-end.result (at_done c.perform-end.result c.explained.result c.explained.ensures.ends
     (sym c.code.ensures ∙ zero))))
-    (sym (same_command (map string_bytes c.args.words.now) (g.I.Source.left c.args.input.now)
+    (sym (same_command (map string_bytes c.args.words.now) (g.I.Source.told c.args.input.now).left
     c.code.result c.in-Ok.command c.explained.result c.in-Ok.ensures.asks c.code.ensures job) ∙ is) made.1 in
     made.2 ∙ ap (λ t. Some (before ++ t)) (near_text decode received job.octets made.0 clean text)
 
 pub returns-in-Ok-clause-heard_in_blocks : goal.returns-in-Ok-clause-heard_in_blocks
 returns-in-Ok-clause-heard_in_blocks g c = λ job decode units before is asked carries was zero.
-    let mine = reads (map string_bytes c.args.words.now) (g.I.Source.left c.args.input.now)
+    let mine = reads (map string_bytes c.args.words.now) (g.I.Source.told c.args.input.now).left
     c.code.result c.in-Ok.command c.explained.result c.in-Ok.ensures.asks c.code.ensures job in
     let made = c.perform-end.ensures.written job.octets before mine was in
-    let text = done_text c.in-Ok.command decode job.octets made.0 (g.I.Source.left c.perform-end.new.input)
+    let text = done_text c.in-Ok.command decode job.octets made.0 (g.I.Source.told c.perform-end.new.input).left
     (status_of c.perform-end.result)
     (sym (status_done c.perform-end.result (at_done c.perform-end.result c.explained.result c.explained.ensures.ends
     (sym c.code.ensures ∙ zero))))
-    (sym (same_command (map string_bytes c.args.words.now) (g.I.Source.left c.args.input.now)
+    (sym (same_command (map string_bytes c.args.words.now) (g.I.Source.told c.args.input.now).left
     c.code.result c.in-Ok.command c.explained.result c.in-Ok.ensures.asks c.code.ensures job) ∙ is) made.1 in
     made.2 ∙ ap (λ t. Some (before ++ t)) (units_text decode units job.octets made.0 asked carries text)
 
 pub returns-in-Ok-clause-repaired : goal.returns-in-Ok-clause-repaired
 returns-in-Ok-clause-repaired g c = λ job decode received before is asked near was zero.
-    let mine = reads (map string_bytes c.args.words.now) (g.I.Source.left c.args.input.now)
+    let mine = reads (map string_bytes c.args.words.now) (g.I.Source.told c.args.input.now).left
     c.code.result c.in-Ok.command c.explained.result c.in-Ok.ensures.asks c.code.ensures job in
     let made = c.perform-end.ensures.written job.octets before mine was in
-    let text = done_text c.in-Ok.command decode job.octets made.0 (g.I.Source.left c.perform-end.new.input)
+    let text = done_text c.in-Ok.command decode job.octets made.0 (g.I.Source.told c.perform-end.new.input).left
     (status_of c.perform-end.result)
     (sym (status_done c.perform-end.result (at_done c.perform-end.result c.explained.result c.explained.ensures.ends
     (sym c.code.ensures ∙ zero))))
-    (sym (same_command (map string_bytes c.args.words.now) (g.I.Source.left c.args.input.now)
+    (sym (same_command (map string_bytes c.args.words.now) (g.I.Source.told c.args.input.now).left
     c.code.result c.in-Ok.command c.explained.result c.in-Ok.ensures.asks c.code.ensures job) ∙ is) made.1 in
     made.2 ∙ ap (λ t. Some (before ++ t)) (repaired_text decode received job.octets made.0 asked near text)
 
@@ -117,12 +117,12 @@ returns-in-Ok-clause-benched g c = λ bench before is was zero.
     let same : c.in-Ok.command ≡ Bench bench = one_command (map string_bytes c.args.words.now) c.in-Ok.command
     (Bench bench) c.in-Ok.ensures.asks is in
     let made = c.perform-end.ensures.written [] before
-    (subst (λ command. Reads command (g.I.Source.left c.args.input.now) []) (sym same) refl) was in
+    (subst (λ command. Reads command (g.I.Source.told c.args.input.now).left []) (sym same) refl) was in
     let done : Done ≡ status_of c.perform-end.result =
     sym (status_done c.perform-end.result (at_done c.perform-end.result c.explained.result c.explained.ensures.ends
     (sym c.code.ensures ∙ zero))) in
     let told : Makes c.in-Ok.command [] made.0 =
-    subst (λ status. Writes c.in-Ok.command [] (g.I.Source.left c.perform-end.new.input) status made.0) (sym done)
+    subst (λ status. Writes c.in-Ok.command [] (g.I.Source.told c.perform-end.new.input).left status made.0) (sym done)
     made.1 in
     let report : IsReportOf bench made.0 = subst (λ command. Makes command [] made.0) same told in
     (report.report, report.over, report.order, made.2 ∙ ap (λ t. Some (before ++ t)) report.is)
@@ -134,9 +134,9 @@ returns-in-Ok-clause-unread g c = λ command asked none.
 
 pub returns-in-Ok-clause-cause : goal.returns-in-Ok-clause-cause
 returns-in-Ok-clause-cause g c = λ job.
-    let mine = reads (map string_bytes c.args.words.now) (g.I.Source.left c.args.input.now)
+    let mine = reads (map string_bytes c.args.words.now) (g.I.Source.told c.args.input.now).left
     c.code.result c.in-Ok.command c.explained.result c.in-Ok.ensures.asks c.code.ensures job in
-    for_job (map string_bytes c.args.words.now) (g.I.Source.left c.args.input.now)
+    for_job (map string_bytes c.args.words.now) (g.I.Source.told c.args.input.now).left
     c.code.result c.in-Ok.command c.explained.result c.in-Ok.ensures.asks c.code.ensures job
     (λ command status. IsCaused command job.octets status)
     (caused c.in-Ok.command job.octets c.perform-end.result c.explained.result c.explained.ensures.ends
@@ -172,15 +172,15 @@ returns-in-Ok-clause-spent g c = λ eight.
 
 pub returns-in-Ok-clause-told : goal.returns-in-Ok-clause-told
 returns-in-Ok-clause-told g c = λ job before was.
-    let mine = reads (map string_bytes c.args.words.now) (g.I.Source.left c.args.input.now)
+    let mine = reads (map string_bytes c.args.words.now) (g.I.Source.told c.args.input.now).left
     c.code.result c.in-Ok.command c.explained.result c.in-Ok.ensures.asks c.code.ensures job in
-    let line = tells c.in-Ok.command job.octets before (g.E.Sink.written c.explained.new.report)
+    let line = tells c.in-Ok.command job.octets before (g.E.Sink.told c.explained.new.report).written
     c.perform-end.result c.explained.result
     c.explained.ensures.ends (λ fault is. c.perform-end.ensures.bad job.octets fault mine is) c.perform-end.ensures.sent
-    (λ quiet. ap g.E.Sink.written (c.explained.ensures.silent quiet) ∙ was)
+    (λ quiet. ap (λ e. (g.E.Sink.told e).written) (c.explained.ensures.silent quiet) ∙ was)
     (c.explained.ensures.told before was) (c.explained.ensures.cut before was) in (
       line.0,
-      for_job (map string_bytes c.args.words.now) (g.I.Source.left c.args.input.now)
+      for_job (map string_bytes c.args.words.now) (g.I.Source.told c.args.input.now).left
           c.code.result c.in-Ok.command c.explained.result c.in-Ok.ensures.asks c.code.ensures job
           (λ command status. Tells command job.octets status line.0) line.1,
       line.2,
@@ -188,9 +188,9 @@ returns-in-Ok-clause-told g c = λ job before was.
 
 pub returns-in-Ok-clause-complete : goal.returns-in-Ok-clause-complete
 returns-in-Ok-clause-complete g c = λ job faultless no_input no_output no_report.
-    let mine = reads (map string_bytes c.args.words.now) (g.I.Source.left c.args.input.now)
+    let mine = reads (map string_bytes c.args.words.now) (g.I.Source.told c.args.input.now).left
     c.code.result c.in-Ok.command c.explained.result c.in-Ok.ensures.asks c.code.ensures job in
-    let same = same_command (map string_bytes c.args.words.now) (g.I.Source.left c.args.input.now)
+    let same = same_command (map string_bytes c.args.words.now) (g.I.Source.told c.args.input.now).left
     c.code.result c.in-Ok.command c.explained.result c.in-Ok.ensures.asks c.code.ensures job in
     let ended = ends_well c.in-Ok.command job.octets c.perform-end.result c.explained.result c.explained.ensures.ends
     (λ fault is.
@@ -226,7 +226,7 @@ returns-in-Err-Refused-clause-cause g c = λ job.
 pub returns-in-Err-Memory-clause-written : goal.returns-in-Err-Memory-clause-written
 returns-in-Err-Memory-clause-written g c = λ job before was.
     let memory = one_status job.status NoMemory (sym job.ends ∙ c.code-in-Err-Memory.ensures) in
-    let left = g.I.Source.left c.args.input.now in (
+    let left = (g.I.Source.told c.args.input.now).left in (
       [],
       subst (λ status. Writes job.command job.octets left status []) (sym memory)
           (inl refl, unread job.command job.octets left job.reads),

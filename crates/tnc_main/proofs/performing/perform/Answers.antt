@@ -52,8 +52,9 @@ returns-in-Decode-clause-bad g c = λ octets fault read is.
 pub returns-in-Decode-clause-written : goal.returns-in-Decode-clause-written
 returns-in-Decode-clause-written g c = λ octets before read was.
     let left = reads c.args.command (Decode c.in-Decode.words) c.in-Decode.is _ octets read in
-    written c.args.command (Decode c.in-Decode.words) c.in-Decode.is octets before (g.I.Source.left c.decode.new.input)
-    (g.O.Sink.written c.decode.new.output) c.ended.result (end_of c.decode.result) c.ended.ensures
+    written c.args.command (Decode c.in-Decode.words) c.in-Decode.is octets before
+    (g.I.Source.told c.decode.new.input).left
+    (g.O.Sink.told c.decode.new.output).written c.ended.result (end_of c.decode.result) c.ended.ensures
     ((decode_reads c.in-Decode.words octets _ _ _ c.decode.result (c.decode.ensures.ended octets left)).written before was)
 
 pub returns-in-Decode-clause-unwritten : goal.returns-in-Decode-clause-unwritten
@@ -71,7 +72,7 @@ returns-in-Encode-clause-end g c = λ octets read.
     if_ok c.ended-in-Encode.result c.encode.result c.ended-in-Encode.ensures
     (reads_back c.args.command (Encode c.in-Encode.words) c.in-Encode.is _ [])
     (encode_reads c.in-Encode.words octets _ _ _ c.encode.result (λ kept. c.encode.ensures.whole octets kept left)
-    (λ kept which. ap g.O.Sink.written (c.encode.ensures.unwritten kept which))
+    (λ kept which. ap (λ o. (g.O.Sink.told o).written) (c.encode.ensures.unwritten kept which))
     (λ sent. c.encode.ensures.ended octets sent left)).end
 
 pub returns-in-Encode-clause-stops : goal.returns-in-Encode-clause-stops
@@ -79,7 +80,7 @@ returns-in-Encode-clause-stops g c = λ octets read is.
     let left = reads c.args.command (Encode c.in-Encode.words) c.in-Encode.is _ octets read in
     reads_back c.args.command (Encode c.in-Encode.words) c.in-Encode.is _ _
     ((encode_reads c.in-Encode.words octets _ _ _ c.encode.result (λ kept. c.encode.ensures.whole octets kept left)
-    (λ kept which. ap g.O.Sink.written (c.encode.ensures.unwritten kept which))
+    (λ kept which. ap (λ o. (g.O.Sink.told o).written) (c.encode.ensures.unwritten kept which))
     (λ sent. c.encode.ensures.ended octets sent left)).stops
     (if_input c.ended-in-Encode.result c.encode.result c.ended-in-Encode.ensures TooLong is))
 
@@ -95,7 +96,7 @@ returns-in-Encode-clause-good g c = λ octets read.
     let left = reads c.args.command (Encode c.in-Encode.words) c.in-Encode.is _ octets read in
     no_fault c.args.command (Encode c.in-Encode.words) c.in-Encode.is octets c.ended-in-Encode.result c.encode.result c.ended-in-Encode.ensures
     (encode_reads c.in-Encode.words octets _ _ _ c.encode.result (λ kept. c.encode.ensures.whole octets kept left)
-    (λ kept which. ap g.O.Sink.written (c.encode.ensures.unwritten kept which))
+    (λ kept which. ap (λ o. (g.O.Sink.told o).written) (c.encode.ensures.unwritten kept which))
     (λ sent. c.encode.ensures.ended octets sent left)).good
 
 pub returns-in-Encode-clause-bad : goal.returns-in-Encode-clause-bad
@@ -103,17 +104,19 @@ returns-in-Encode-clause-bad g c = λ octets fault read is.
     let left = reads c.args.command (Encode c.in-Encode.words) c.in-Encode.is _ octets read in
     same_fault c.args.command (Encode c.in-Encode.words) c.in-Encode.is octets
     ∙ (encode_reads c.in-Encode.words octets _ _ _ c.encode.result (λ kept. c.encode.ensures.whole octets kept left)
-    (λ kept which. ap g.O.Sink.written (c.encode.ensures.unwritten kept which))
+    (λ kept which. ap (λ o. (g.O.Sink.told o).written) (c.encode.ensures.unwritten kept which))
     (λ sent. c.encode.ensures.ended octets sent left)).bad fault
     (if_input c.ended-in-Encode.result c.encode.result c.ended-in-Encode.ensures fault is)
 
 pub returns-in-Encode-clause-written : goal.returns-in-Encode-clause-written
 returns-in-Encode-clause-written g c = λ octets before read was.
     let left = reads c.args.command (Encode c.in-Encode.words) c.in-Encode.is _ octets read in
-    written c.args.command (Encode c.in-Encode.words) c.in-Encode.is octets before (g.I.Source.left c.encode.new.input)
-    (g.O.Sink.written c.encode.new.output) c.ended-in-Encode.result (end_of c.encode.result) c.ended-in-Encode.ensures
+    written c.args.command (Encode c.in-Encode.words) c.in-Encode.is octets before
+    (g.I.Source.told c.encode.new.input).left
+    (g.O.Sink.told c.encode.new.output).written c.ended-in-Encode.result
+    (end_of c.encode.result) c.ended-in-Encode.ensures
     ((encode_reads c.in-Encode.words octets _ _ _ c.encode.result (λ kept. c.encode.ensures.whole octets kept left)
-    (λ kept which. ap g.O.Sink.written (c.encode.ensures.unwritten kept which))
+    (λ kept which. ap (λ o. (g.O.Sink.told o).written) (c.encode.ensures.unwritten kept which))
     (λ sent. c.encode.ensures.ended octets sent left)).written before was)
 
 pub returns-in-Encode-clause-unwritten : goal.returns-in-Encode-clause-unwritten
@@ -167,8 +170,8 @@ returns-in-Show-clause-bad g c = λ octets fault read is.
 pub returns-in-Show-clause-written : goal.returns-in-Show-clause-written
 returns-in-Show-clause-written g c = λ octets before read was.
     let left = reads c.args.command (Show c.in-Show.words) c.in-Show.is _ octets read in
-    written c.args.command (Show c.in-Show.words) c.in-Show.is octets before (g.I.Source.left c.show.new.input)
-    (g.O.Sink.written c.show.new.output) c.ended-in-Show.result (end_of c.show.result) c.ended-in-Show.ensures
+    written c.args.command (Show c.in-Show.words) c.in-Show.is octets before (g.I.Source.told c.show.new.input).left
+    (g.O.Sink.told c.show.new.output).written c.ended-in-Show.result (end_of c.show.result) c.ended-in-Show.ensures
     ((show_reads c.in-Show.words octets _ _ _ c.show.result (c.show.ensures.ended octets left)).written before was)
 
 pub returns-in-Show-clause-unwritten : goal.returns-in-Show-clause-unwritten
@@ -199,15 +202,16 @@ returns-in-Loop-clause-heard_as_made g c = λ words same.
 pub returns-in-Loop-clause-written : goal.returns-in-Loop-clause-written
 returns-in-Loop-clause-written g c = λ octets before read was.
     let command = Loop c.in-Loop.words in
-    let left_now = g.I.Source.left c.args.input.now in
-    let now = g.O.Sink.written c.loop_back.new.output in
+    let left_now = (g.I.Source.told c.args.input.now).left in
+    let now = (g.O.Sink.told c.loop_back.new.output).written in
     written c.args.command command c.in-Loop.is octets before left_now now c.ended_loop.result
     (end_of_loop c.loop_back.result) c.ended_loop.ensures
     (loop_writes command octets before left_now now c.loop_back.result
     (c.loop_back.ensures.done before was)
     (λ frame. c.loop_back.ensures.done_before frame before was)
     (λ memory. at_memory command tt octets before left_now now
-    (nothing_written command tt octets before left_now now (ap g.O.Sink.written (c.loop_back.ensures.unwritten memory)
+    (nothing_written command tt octets before left_now now (ap (λ o. (g.O.Sink.told o).written)
+    (c.loop_back.ensures.unwritten memory)
     ∙ was)))
     (λ write.
     let text = some_summary c.in-Loop.words in
@@ -237,13 +241,13 @@ returns-in-Bench-clause-heard_as_made g c = λ words same. let both : Bench c.in
 pub returns-in-Bench-clause-written : goal.returns-in-Bench-clause-written
 returns-in-Bench-clause-written g c = λ octets before read was.
     let options = c.in-Bench.options in
-    let left_now = g.I.Source.left c.args.input.now in
-    let now = g.O.Sink.written c.bench.new.output in
+    let left_now = (g.I.Source.told c.args.input.now).left in
+    let now = (g.O.Sink.told c.bench.new.output).written in
     written c.args.command (Bench options) c.in-Bench.is octets before left_now now c.ended_bench.result
     (end_of_bench c.bench.result) c.ended_bench.ensures
     (bench_writes options octets before left_now now c.bench.result
     (c.bench.ensures.done before was)
-    (λ fault is. ap g.O.Sink.written (c.bench.ensures.unwritten fault is) ∙ was)
+    (λ fault is. ap (λ o. (g.O.Sink.told o).written) (c.bench.ensures.unwritten fault is) ∙ was)
     (c.bench.ensures.cut before was))
 
 pub returns-in-Bench-clause-unwritten : goal.returns-in-Bench-clause-unwritten
@@ -281,8 +285,8 @@ returns-in-Help-clause-heard_as_made g c = λ words same. let both : Help c.in-H
 
 pub returns-in-Help-clause-written : goal.returns-in-Help-clause-written
 returns-in-Help-clause-written g c = λ octets before read was.
-    let left_now = g.I.Source.left c.args.input.now in
-    let now = g.O.Sink.written c.print_text.new.output in
+    let left_now = (g.I.Source.told c.args.input.now).left in
+    let now = (g.O.Sink.told c.print_text.new.output).written in
     written c.args.command (Help c.in-Help.topic) c.in-Help.is octets before left_now now c.print_text.result
     c.print_text.result refl
     (text_writes (Help c.in-Help.topic) tt octets before (text_about c.in-Help.topic)
@@ -314,8 +318,8 @@ returns-in-Version-clause-heard_as_made g c = λ words same. let both : Version 
 
 pub returns-in-Version-clause-written : goal.returns-in-Version-clause-written
 returns-in-Version-clause-written g c = λ octets before read was.
-    let left_now = g.I.Source.left c.args.input.now in
-    let now = g.O.Sink.written c.print_text-in-Version.new.output in
+    let left_now = (g.I.Source.told c.args.input.now).left in
+    let now = (g.O.Sink.told c.print_text-in-Version.new.output).written in
     written c.args.command Version c.in-Version.is octets before left_now now c.print_text-in-Version.result
     c.print_text-in-Version.result refl
     (text_writes Version tt octets before version_text left_now now c.print_text-in-Version.result

@@ -1,5 +1,5 @@
 use Rattle.tnc_main.proofs.Common.{◌≡◌, inl, inr, refl, sym, subst, ap, ◌∙◌, map, string_bytes, arith, Asks, command_of}
-use Rattle.tnc_main.proofs.Common.{HasRisen, outside_by, input_by, stream_of}
+use Rattle.tnc_main.proofs.Common.{HasRisen, outside_by}
 use Rattle.tnc_main.specs.declared.live_command.LiveCommand.TheVariants.{Serve as LiveServe, Record as LiveRecord}
 use Rattle.tnc_main.specs.declared.live_command.LiveCommand.TheVariants.{Call as LiveCall}
 use Rattle.tnc_main.specs.declared.status.Status.TheVariants.{Memory as NoMemory}
@@ -22,13 +22,11 @@ returns-in-Ok-clause-served g c = λ options asked.
       kept.0,
       inl (record {
         memory = refl;
-        unread = ap (input_by g.I.Source.left g.I.Source.faults) kept.1;
+        unread = ap g.I.Source.told kept.1;
         untouched =
-            ap (λ output. outside_by g.N.Ports.told g.K.KeyPort.told
-            g.O.Sink.written g.O.Sink.faults g.E.Sink.written g.E.Sink.faults
+            ap (λ output. outside_by g.N.Ports.told g.K.KeyPort.told g.O.Sink.told g.E.Sink.told
             c.args.live.now.ports c.args.live.now.key output c.run_batch.new.report) kept.2
-            ∙ ap (outside_by g.N.Ports.told g.K.KeyPort.told
-            g.O.Sink.written g.O.Sink.faults g.E.Sink.written g.E.Sink.faults
+            ∙ ap (outside_by g.N.Ports.told g.K.KeyPort.told g.O.Sink.told g.E.Sink.told
             c.args.live.now.ports c.args.live.now.key c.args.output.now) kept.3;
       }),
     )
@@ -102,11 +100,10 @@ returns-in-Err-clause-served g c = λ options asked.
     let same = one_live (map string_bytes c.args.words.now) c.in-Err.command c.in-Err.ensures.live
     (LiveServe options) asked in
     let kept = c.in-Err.ensures.untouched in
-    rebased options c.args.live.now.seed c.run_live.result _ _ _ _ _ _ (ap (input_by g.I.Source.left g.I.Source.faults) kept.0)
-    (ap (λ output. outside_by g.N.Ports.told g.K.KeyPort.told
-    g.O.Sink.written g.O.Sink.faults g.E.Sink.written g.E.Sink.faults
+    rebased options c.args.live.now.seed c.run_live.result _ _ _ _ _ _ (ap g.I.Source.told kept.0)
+    (ap (λ output. outside_by g.N.Ports.told g.K.KeyPort.told g.O.Sink.told g.E.Sink.told
     c.args.live.now.ports c.args.live.now.key output c.run_batch.new.report) kept.1
-    ∙ ap (outside_by g.N.Ports.told g.K.KeyPort.told g.O.Sink.written g.O.Sink.faults g.E.Sink.written g.E.Sink.faults
+    ∙ ap (outside_by g.N.Ports.told g.K.KeyPort.told g.O.Sink.told g.E.Sink.told
     c.args.live.now.ports c.args.live.now.key c.args.output.now) kept.2)
     (c.run_live.ensures.served options same)
 
@@ -117,13 +114,11 @@ returns-in-Ok-clause-no_thread g c = λ options asked three.
       refl,
       record {
         memory = refl;
-        unread = ap (input_by g.I.Source.left g.I.Source.faults) kept.1;
+        unread = ap g.I.Source.told kept.1;
         untouched =
-            ap (λ output. outside_by g.N.Ports.told g.K.KeyPort.told
-            g.O.Sink.written g.O.Sink.faults g.E.Sink.written g.E.Sink.faults
+            ap (λ output. outside_by g.N.Ports.told g.K.KeyPort.told g.O.Sink.told g.E.Sink.told
             c.args.live.now.ports c.args.live.now.key output c.run_batch.new.report) kept.2
-            ∙ ap (outside_by g.N.Ports.told g.K.KeyPort.told
-            g.O.Sink.written g.O.Sink.faults g.E.Sink.written g.E.Sink.faults
+            ∙ ap (outside_by g.N.Ports.told g.K.KeyPort.told g.O.Sink.told g.E.Sink.told
             c.args.live.now.ports c.args.live.now.key c.args.output.now) kept.3;
       },
     )
@@ -133,11 +128,10 @@ returns-in-Err-clause-no_thread g c = λ options asked three.
     let same = one_live (map string_bytes c.args.words.now) c.in-Err.command c.in-Err.ensures.live
     (LiveServe options) asked in
     let kept = c.in-Err.ensures.untouched in
-    want_from options _ _ _ _ _ _ _ _ _ (ap (input_by g.I.Source.left g.I.Source.faults) kept.0)
-    (ap (λ output. outside_by g.N.Ports.told g.K.KeyPort.told
-    g.O.Sink.written g.O.Sink.faults g.E.Sink.written g.E.Sink.faults
+    want_from options _ _ _ _ _ _ _ _ _ (ap g.I.Source.told kept.0)
+    (ap (λ output. outside_by g.N.Ports.told g.K.KeyPort.told g.O.Sink.told g.E.Sink.told
     c.args.live.now.ports c.args.live.now.key output c.run_batch.new.report) kept.1
-    ∙ ap (outside_by g.N.Ports.told g.K.KeyPort.told g.O.Sink.written g.O.Sink.faults g.E.Sink.written g.E.Sink.faults
+    ∙ ap (outside_by g.N.Ports.told g.K.KeyPort.told g.O.Sink.told g.E.Sink.told
     c.args.live.now.ports c.args.live.now.key c.args.output.now) kept.2)
     (c.run_live.ensures.want options same three)
 
@@ -148,9 +142,9 @@ returns-in-Ok-clause-called g c = λ options text before asked reads was.
       kept.0,
       inl (record {
         memory = refl;
-        unwritten = ap g.O.Sink.written kept.2 ∙ was;
+        unwritten = ap (λ o. (g.O.Sink.told o).written) kept.2 ∙ was;
         untouched = refl;
-        untold = ap (stream_of g.E.Sink.written g.E.Sink.faults) kept.3;
+        untold = ap g.E.Sink.told kept.3;
       }),
     )
 
@@ -160,9 +154,9 @@ returns-in-Err-clause-called g c = λ options text before asked reads was.
     (LiveCall options) asked in
     let kept = c.in-Err.ensures.untouched in
     let made = called_from (words_of options) c.run_live.result text before _ _ _ _ _ _
-    (ap (stream_of g.E.Sink.written g.E.Sink.faults) kept.2)
-    (c.run_live.ensures.called options text before same (ap g.I.Source.left kept.0 ∙ reads)
-    (ap g.O.Sink.written kept.1 ∙ was)) in
+    (ap g.E.Sink.told kept.2)
+    (c.run_live.ensures.called options text before same (ap (λ i. (g.I.Source.told i).left) kept.0 ∙ reads)
+    (ap (λ o. (g.O.Sink.told o).written) kept.1 ∙ was)) in
     (made.0, made.1, inr made.2)
 
 pub returns-in-Ok-clause-of_call : goal.returns-in-Ok-clause-of_call
@@ -181,9 +175,9 @@ returns-in-Ok-clause-recorded g c = λ options asked.
       inl (
         refl,
         record {
-          unread = ap (input_by g.I.Source.left g.I.Source.faults) kept.1;
-          no_output = ap (stream_of g.O.Sink.written g.O.Sink.faults) kept.2;
-          no_report = ap (stream_of g.E.Sink.written g.E.Sink.faults) kept.3;
+          unread = ap g.I.Source.told kept.1;
+          no_output = ap g.O.Sink.told kept.2;
+          no_report = ap g.E.Sink.told kept.3;
         },
       ),
     )
@@ -193,8 +187,8 @@ returns-in-Err-clause-recorded g c = λ options asked.
     let same = one_live (map string_bytes c.args.words.now) c.in-Err.command c.in-Err.ensures.live
     (LiveRecord options) asked in
     let kept = c.in-Err.ensures.untouched in
-    recorded_from options c.run_live.result _ _ _ _ _ _ _ _ _ (ap (input_by g.I.Source.left g.I.Source.faults) kept.0)
-    (ap (stream_of g.O.Sink.written g.O.Sink.faults) kept.1) (ap (stream_of g.E.Sink.written g.E.Sink.faults) kept.2)
+    recorded_from options c.run_live.result _ _ _ _ _ _ _ _ _ (ap g.I.Source.told kept.0)
+    (ap g.O.Sink.told kept.1) (ap g.E.Sink.told kept.2)
     (c.run_live.ensures.recorded options same)
 
 pub returns-in-Ok-clause-complete_recorded : goal.returns-in-Ok-clause-complete_recorded
@@ -217,12 +211,15 @@ returns-in-Err-clause-complete_served g c = λ options asked octets tells few no
     let same = one_live (map string_bytes c.args.words.now) c.in-Err.command c.in-Err.ensures.live
     (LiveServe options) asked in
     let kept = c.in-Err.ensures.untouched in
-    c.run_live.ensures.complete_served options same octets (ap g.I.Source.left kept.0 ∙ tells) few
-    (λ rose. no_read (subst (λ input. HasRisen (g.I.Source.faults input) (g.I.Source.faults c.run_live.new.input))
+    c.run_live.ensures.complete_served options same octets (ap (λ i. (g.I.Source.told i).left) kept.0 ∙ tells) few
+    (λ rose. no_read (subst (λ input. HasRisen (g.I.Source.told input).faults
+    (g.I.Source.told c.run_live.new.input).faults)
     kept.0 rose))
-    (λ rose. no_write (subst (λ output. HasRisen (g.O.Sink.faults output) (g.O.Sink.faults c.run_live.new.output))
+    (λ rose. no_write (subst (λ output. HasRisen (g.O.Sink.told output).faults
+    (g.O.Sink.told c.run_live.new.output).faults)
     kept.1 rose))
-    (λ rose. no_report (subst (λ report. HasRisen (g.E.Sink.faults report) (g.E.Sink.faults c.run_live.new.report))
+    (λ rose. no_report (subst (λ report. HasRisen (g.E.Sink.told report).faults
+    (g.E.Sink.told c.run_live.new.report).faults)
     kept.2 rose)) no_port
 
 pub returns-in-Err-clause-complete_recorded : goal.returns-in-Err-clause-complete_recorded
@@ -230,12 +227,15 @@ returns-in-Err-clause-complete_recorded g c = λ options asked octets tells few 
     let same = one_live (map string_bytes c.args.words.now) c.in-Err.command c.in-Err.ensures.live
     (LiveRecord options) asked in
     let kept = c.in-Err.ensures.untouched in
-    c.run_live.ensures.complete_recorded options same octets (ap g.I.Source.left kept.0 ∙ tells) few
-    (λ rose. no_read (subst (λ input. HasRisen (g.I.Source.faults input) (g.I.Source.faults c.run_live.new.input))
+    c.run_live.ensures.complete_recorded options same octets (ap (λ i. (g.I.Source.told i).left) kept.0 ∙ tells) few
+    (λ rose. no_read (subst (λ input. HasRisen (g.I.Source.told input).faults
+    (g.I.Source.told c.run_live.new.input).faults)
     kept.0 rose))
-    (λ rose. no_write (subst (λ output. HasRisen (g.O.Sink.faults output) (g.O.Sink.faults c.run_live.new.output))
+    (λ rose. no_write (subst (λ output. HasRisen (g.O.Sink.told output).faults
+    (g.O.Sink.told c.run_live.new.output).faults)
     kept.1 rose))
-    (λ rose. no_report (subst (λ report. HasRisen (g.E.Sink.faults report) (g.E.Sink.faults c.run_live.new.report))
+    (λ rose. no_report (subst (λ report. HasRisen (g.E.Sink.told report).faults
+    (g.E.Sink.told c.run_live.new.report).faults)
     kept.2 rose))
 
 -- ---- the key

@@ -1,4 +1,4 @@
-use Rattle.tnc_main.proofs.Common.{◌≡◌, stream_of}
+use Rattle.tnc_main.proofs.Common.{◌≡◌}
 use Rattle.tnc_main.proofs.RecordingLemmas as run
 use Rattle.tnc_main.proofs.recording.record.Goals as goal
 
@@ -8,7 +8,7 @@ returns-clause-recorded g c = (
   c.code.ensures,
   record {
     end = c.record-end.result;
-    between = stream_of g.E.Sink.written g.E.Sink.faults c.record-end.new.report;
+    between = g.E.Sink.told c.record-end.new.report;
     recorded = c.record-end.ensures;
     told = c.tell_end.ensures;
   },

@@ -1,4 +1,4 @@
-use Rattle.tnc_main.proofs.Common.{◌≡◌, refl, sym, ◌∙◌, outside_by, input_by, Status, Serves, code_of}
+use Rattle.tnc_main.proofs.Common.{◌≡◌, refl, sym, ◌∙◌, outside_by, Status, Serves, code_of}
 use Rattle.tnc_main.specs.declared.status.Status.TheVariants.{Memory as NoMemory}
 use Rattle.tnc_main.proofs.LiveRuns as run
 use Rattle.tnc_main.proofs.ServingLemmas.{in_want}
@@ -11,8 +11,7 @@ returns-clause-served g c = (
   c.code.ensures,
   record {
     end = c.serve-end.result;
-    between = outside_by g.N.Ports.told g.K.KeyPort.told
-        g.O.Sink.written g.O.Sink.faults g.E.Sink.written g.E.Sink.faults
+    between = outside_by g.N.Ports.told g.K.KeyPort.told g.O.Sink.told g.E.Sink.told
         c.serve-end.new.live.ports c.serve-end.new.live.key c.serve-end.new.output c.serve-end.new.report;
     served = c.serve-end.ensures.served;
     told = c.tell_end.ensures _ refl refl;
@@ -33,8 +32,7 @@ returns-clause-write_fault g c = run.write_fault c.args.words c.code.result _ _ 
 
 pub returns-clause-want : goal.returns-clause-want
 returns-clause-want g c = λ three.
-    let between = outside_by g.N.Ports.told g.K.KeyPort.told
-    g.O.Sink.written g.O.Sink.faults g.E.Sink.written g.E.Sink.faults
+    let between = outside_by g.N.Ports.told g.K.KeyPort.told g.O.Sink.told g.E.Sink.told
     c.serve-end.new.live.ports c.serve-end.new.live.key c.serve-end.new.output c.serve-end.new.report in
     in_want c.args.words _ _ _ between _ c.tell_end.result _ _ c.serve-end.result
     (c.serve-end.ensures.served, c.tell_end.ensures between refl refl) c.serve-end.ensures.no_thread

@@ -2,11 +2,11 @@ use Rattle.std.proofs.Common.{List, ◌++◌, sym, ap, subst, ◌∙◌}
 use Rattle.std.specs.Prelude.{Bool, map}
 use Rattle.keying.specs.declared.report.Report.{Report}
 use Rattle.key_port.specs.KeyEvents.{ready_report, lost_report, tick_report}
-use Rattle.tnc_ports.proofs.Common.{Stream, Puts, map-append, key_line, report_text}
+use Rattle.tnc_ports.proofs.Common.{SinkTold, Puts, map-append, key_line, report_text}
 use Rattle.tnc_ports.proofs.LiveWrites.{puts_puts, report_text-append}
 use Rattle.tnc_ports.proofs.key_lines.put_reports.Goals as goal
 
-puts_lines : (a b : List Report) (f m f' : Bool) (r r' r'' : Stream)
+puts_lines : (a b : List Report) (f m f' : Bool) (r r' r'' : SinkTold)
     → Puts f m (report_text (map key_line a)) r r' → Puts m f' (report_text (map key_line b)) r' r''
     → Puts f f' (report_text (map key_line (a ++ b))) r r''
 puts_lines a b f m f' r r' r'' h g =

@@ -3,7 +3,6 @@ use Rattle.tnc_ports.proofs.Common.{refl, false, [], ap, subst, sym, ◌∙◌, 
 use Rattle.tnc_ports.proofs.Common.{ring_len}
 use Rattle.tnc_ports.specs.declared.meter.Meter.{Meter}
 use Rattle.tnc_ports.specs.HeldMeter.{IsFreshSound, answers_with}
-use Rattle.tnc_ports.specs.SampledHeld.{output_of, report_of}
 use Rattle.tnc_ports.specs.SampledRun.{outside_by}
 use Rattle.tnc_ports.proofs.KeyReleases.{looped, released_by}
 use Rattle.tnc_ports.proofs.LiveLoop.{first_written, first_line}
@@ -14,12 +13,12 @@ pub returns-in_default-clause-looped : goal.returns-in_default-clause-looped
 returns-in_default-clause-looped g c =
     let words = c.args.words.now in
     let line : LineTold = g.K.KeyPort.told c.release_key.new.key in
-    let start : Outside = outside_by g.N.Ports.told g.K.KeyPort.told g.O.Sink.written g.O.Sink.faults g.E.Sink.written
-    g.E.Sink.faults c.args.ports.now c.args.key.now c.args.output.now c.args.report.now in
+    let start : Outside = outside_by g.N.Ports.told g.K.KeyPort.told g.O.Sink.told g.E.Sink.told c.args.ports.now
+    c.args.key.now c.args.output.now c.args.report.now in
     nothing_looped words _ start line (fresh_answers c.args.ring.now (ring_len c.args.ring.now) c.args.receiver.now c.args.sound.now _
     c.requires.fresh.new c.requires.sound)
     (released_by (from_of start) words.key c.key_of-side.result c.release_key.new.side false (new_live words)
-    (output_of start) (report_of start) start.line line c.key_of-side.ensures
+    start.output start.report start.line line c.key_of-side.ensures
     (first_written words words.key false start) (first_line start words.key words)
     (c.release_key.ensures words.key _ [] c.key_of-side.ensures))
 
@@ -51,9 +50,9 @@ returns-clause-looped g c =
     let words = c.args.words.now in
     subst (λ (meter : Meter). IsLooped words c.run-end.result
     (answers_with (ring_len c.args.ring.now) c.run-end.new.receiver meter.reader)
-    (outside_by g.N.Ports.told g.K.KeyPort.told g.O.Sink.written g.O.Sink.faults g.E.Sink.written g.E.Sink.faults
+    (outside_by g.N.Ports.told g.K.KeyPort.told g.O.Sink.told g.E.Sink.told
     c.args.ports.now c.args.key.now c.args.output.now c.args.report.now)
-    (outside_by g.N.Ports.told g.K.KeyPort.told g.O.Sink.written g.O.Sink.faults g.E.Sink.written g.E.Sink.faults
+    (outside_by g.N.Ports.told g.K.KeyPort.told g.O.Sink.told g.E.Sink.told
     c.run-end.new.ports c.release.new.key c.run-end.new.output c.run-end.new.report)) (sym c.release.ensures.meter)
     (looped _ _ _ words c.run-end.new.turning (λ live key. c.release.ensures.released _ live _ key) c.run-end.result _
     c.run-end.ensures.run)

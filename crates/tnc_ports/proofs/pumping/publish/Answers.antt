@@ -18,8 +18,7 @@ loop-octet-init g c = record {
     sym (append-nil (g.T.Inlet.published c.args.inlet.now)),
     λ before told. told ∙ ap Some (sym (append-nil before)),
   );
-  left = refl;
-  faults = refl;
+  source = refl;
 }
 
 pub loop-octet-preserved : goal.loop-octet-preserved
@@ -48,6 +47,5 @@ loop-octet-preserved g c =
             ∙ ap Some (append_assoc before (map Publishes so_far.0) (map Publishes one.0)
             ∙ ap (λ l. before ++ l) (sym (map-append Publishes so_far.0 one.0))),
       );
-      left = c.push_octet.ensures.left ∙ c.loop-octet.invariant.left;
-      faults = c.push_octet.ensures.faults ∙ c.loop-octet.invariant.faults;
+      source = c.push_octet.ensures.source ∙ c.loop-octet.invariant.source;
     }

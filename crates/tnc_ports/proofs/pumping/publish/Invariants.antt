@@ -15,6 +15,5 @@ invariant-loop-octet g l = record {
   steps : (more : List ℤ) × (g.T.Inlet.published l.inlet ≡ g.T.Inlet.published l.initial.inlet ++ more)
       × ((before : List Step) → g.T.Inlet.steps l.initial.inlet ≡ Some before
       → g.T.Inlet.steps l.inlet ≡ Some (before ++ map Publishes more));
-  left : g.T.Inlet.left l.inlet ≡ g.T.Inlet.left l.initial.inlet;
-  faults : g.T.Inlet.faults l.inlet ≡ g.T.Inlet.faults l.initial.inlet;
+  source : g.T.Inlet.told l.inlet ≡ g.T.Inlet.told l.initial.inlet;
 }

@@ -14,8 +14,7 @@ loop-sample-init g c = record {
   ring = refl;
   published = sym (append-nil (g.T.Inlet.published c.args.inlet.now));
   steps = λ before told. told ∙ ap Some (sym (append-nil before));
-  left = refl;
-  faults = refl;
+  source = refl;
 }
 
 pub publish-requires : goal.publish-requires
@@ -50,8 +49,7 @@ loop-sample-preserved g c =
           ∙ ap (λ (z : ℤ). Some ((before ++ map Publishes (take i samples)) ++ Publishes z ∷ [])) same
           ∙ ap Some (append_assoc before (map Publishes (take i samples)) (Publishes sample ∷ [])
           ∙ ap (λ l. before ++ l) (sym (ap (map Publishes) more ∙ map-append Publishes (take i samples) (sample ∷ []))));
-      left = c.publish.ensures.left ∙ c.loop-sample.invariant.left;
-      faults = c.publish.ensures.faults ∙ c.loop-sample.invariant.faults;
+      source = c.publish.ensures.source ∙ c.loop-sample.invariant.source;
     }
 
 pub returns-clause-published : goal.returns-clause-published

@@ -10,6 +10,5 @@ invariant-loop-sample g l = record {
   published : g.T.Inlet.published l.inlet ≡ g.T.Inlet.published l.initial.inlet ++ take l.sample-index l.samples;
   steps : (before : List Step) → g.T.Inlet.steps l.initial.inlet ≡ Some before
       → g.T.Inlet.steps l.inlet ≡ Some (before ++ map Publishes (take l.sample-index l.samples));
-  left : g.T.Inlet.left l.inlet ≡ g.T.Inlet.left l.initial.inlet;
-  faults : g.T.Inlet.faults l.inlet ≡ g.T.Inlet.faults l.initial.inlet;
+  source : g.T.Inlet.told l.inlet ≡ g.T.Inlet.told l.initial.inlet;
 }

@@ -1,5 +1,6 @@
 use Rattle.tnc_ports.proofs.Common.{◌≡◌, ◌≤◌, ap, arith, length, refl, subst, sym}
 use Rattle.sound_rate.proofs.Lengths.{received_few}
+use Rattle.tnc_base.specs.Streams.{SourceTold}
 use Rattle.tnc_ports.specs.HeldPump.{HasStopped}
 use Rattle.tnc_ports.proofs.PaceLemmas.{keeps_pace}
 use Rattle.tnc_ports.proofs.PumpLemmas.{is_pumped, pumped_same}
@@ -8,10 +9,12 @@ use Rattle.tnc_ports.proofs.pumping.pump_inlet.Goals as goal
 pub returns-clause-pumped : goal.returns-clause-pumped
 returns-clause-pumped g c = λ octets left.
     let p = c.pump_reads-end.ensures.pumped c.args.rate octets c.new-incoming.ensures left in
-    is_pumped c.args.rate octets (g.T.Inlet.left c.publish_rest.new.inlet) (g.T.Inlet.published c.pump_reads-end.new.inlet)
+    is_pumped c.args.rate octets (g.T.Inlet.told c.publish_rest.new.inlet).left
+    (g.T.Inlet.published c.pump_reads-end.new.inlet)
     (g.T.Inlet.published c.publish_rest.new.inlet) c.pump_reads-end.new.incoming p.0 p.1 c.pump_reads-end.result
-    (pumped_same c.args.rate octets _ _ _ _ _ _ _ p.2 c.publish_rest.ensures.left refl)
-    (subst (λ l. HasStopped c.pump_reads-end.result l p.1) (sym c.publish_rest.ensures.left) p.3)
+    (pumped_same c.args.rate octets _ _ _ _ _ _ _ p.2
+    (ap (λ (t : SourceTold). t.left) c.publish_rest.ensures.source) refl)
+    (subst (λ (t : SourceTold). HasStopped c.pump_reads-end.result t.left p.1) (sym c.publish_rest.ensures.source) p.3)
     (c.publish_rest.ensures.rest c.args.rate)
 
 pub returns-clause-pace : goal.returns-clause-pace

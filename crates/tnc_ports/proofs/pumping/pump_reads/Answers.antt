@@ -3,6 +3,7 @@ use Rattle.tnc_ports.proofs.Common.{arith, length-append, length-take-le, take-a
 use Rattle.std.proofs.Common.{List}
 use Rattle.std.proofs.lemmas.List.{length-take}
 use Rattle.sound_rate.specs.declared.rate.Rate.{Rate}
+use Rattle.tnc_base.specs.Streams.{SourceTold}
 use Rattle.tnc_ports.specs.HeldPump.{HasTaken, IsFed}
 use Rattle.sound_rate.proofs.Nothing.{none_settled}
 use Rattle.tnc_ports.proofs.PaceLemmas.{paces_first, paces_more, paces_on_nothing, paces_same}
@@ -133,7 +134,8 @@ reading-preserved g c =
       ring = c.publish.ensures.ring ∙ c.read.ensures.ring ∙ c.reading.invariant.ring;
       so_far = λ rate whole fresh left.
           pumped_more rate whole c.read.new.buffer _ _ _ _ _ _ _ _ _ _ (c.reading.invariant.so_far rate whole fresh left)
-          (λ octets told. subst (λ o. Gives octets o c.read.new.buffer c.in-Ok.count) (sym c.publish.ensures.left)
+          (λ octets told. subst (λ (t : SourceTold). Gives octets t.left c.read.new.buffer c.in-Ok.count)
+          (sym c.publish.ensures.source)
           (c.in-Ok.ensures.gives octets told)) within (took rate);
       pace = λ rate before fresh told.
           paces_more rate before _ _ _ _ _ _ _ _ _ piece grown.0 (c.reading.invariant.pace rate before fresh told)
@@ -154,7 +156,8 @@ reading-preserved g c =
       later =
           let l = c.reading.invariant.later in
           let m = c.read.ensures.later in
-          let n = c.publish.ensures.faults in
+          let n = ap (λ (t : SourceTold). t.faults) c.publish.ensures.source in
           omega (arith, l, m, n);
-      faultless = c.publish.ensures.faults ∙ c.in-Ok.ensures.faultless ∙ c.reading.invariant.faultless;
+      faultless = ap (λ (t : SourceTold). t.faults) c.publish.ensures.source ∙ c.in-Ok.ensures.faultless
+          ∙ c.reading.invariant.faultless;
     }

@@ -11,8 +11,8 @@ invariant-reading g l = record {
   output : g.T.Inlet.output l.inlet ≡ g.T.Inlet.output l.initial.inlet;
   ring : g.T.Inlet.ring l.inlet ≡ g.T.Inlet.ring l.initial.inlet;
   so_far : (rate : Rate) (whole : List ℕ) → HasReceived rate l.initial.incoming []
-      → g.T.Inlet.left l.initial.inlet ≡ Some whole
-      → HasPumped rate whole (g.T.Inlet.left l.inlet) (g.T.Inlet.published l.inlet) l.incoming l.low l.total;
+      → (g.T.Inlet.told l.initial.inlet).left ≡ Some whole
+      → HasPumped rate whole (g.T.Inlet.told l.inlet).left (g.T.Inlet.published l.inlet) l.incoming l.low l.total;
   pace : (rate : Rate) (before : List Step) → HasReceived rate l.initial.incoming []
       → g.T.Inlet.steps l.initial.inlet ≡ Some before
       → PacesOn rate before (g.T.Inlet.steps l.inlet) (g.T.Inlet.published l.inlet) l.incoming l.low;
@@ -21,8 +21,8 @@ invariant-reading g l = record {
       × (2 * length x + count_of l.low ≡ l.total);
   bound : l.total ≤ most_input + 1;
   room : length (g.T.Inlet.published l.inlet) ≤ l.total;
-  later : g.T.Inlet.faults l.initial.inlet ≤ g.T.Inlet.faults l.inlet;
-  faultless : g.T.Inlet.faults l.inlet ≡ g.T.Inlet.faults l.initial.inlet;
+  later : (g.T.Inlet.told l.initial.inlet).faults ≤ (g.T.Inlet.told l.inlet).faults;
+  faultless : (g.T.Inlet.told l.inlet).faults ≡ (g.T.Inlet.told l.initial.inlet).faults;
 }
 
 abbrev pub decreases-reading : goal.decreases-reading

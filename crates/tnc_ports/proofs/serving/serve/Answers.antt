@@ -17,9 +17,7 @@ returns-in_default-clause-served g c =
       faults = c.listen.ensures.later;
       line = refl;
       output = refl;
-      output_faults = refl;
       report = refl;
-      report_faults = refl;
     }))
 
 pub returns-in_default-new-clause-served : goal.returns-in_default-new-clause-served
@@ -34,9 +32,7 @@ returns-in_default-new-clause-served g c =
       faults = c.listen.ensures.later;
       line = refl;
       output = refl;
-      output_faults = refl;
       report = refl;
-      report_faults = refl;
     }))
 
 pub new-requires-2-clause-fresh : goal.new-requires-2-clause-fresh
@@ -80,9 +76,7 @@ returns-in_default-with_capacity-clause-served g c =
       faults = c.listen.ensures.later;
       line = refl;
       output = refl;
-      output_faults = refl;
       report = refl;
-      report_faults = refl;
     }))
 
 pub returns-in_default-run_beside-clause-served : goal.returns-in_default-run_beside-clause-served
@@ -99,9 +93,7 @@ returns-in_default-run_beside-clause-served g c =
       faults = c.listen.ensures.later;
       line = refl;
       output = refl;
-      output_faults = refl;
       report = refl;
-      report_faults = refl;
     }))
     refl (c.in_default-run_beside.ensures.unread refl) c.in_default-run_beside.ensures.looped
 
@@ -118,8 +110,6 @@ returns-clause-served g c =
       faults = c.listen.ensures.later;
       line = refl;
       output = refl;
-      output_faults = refl;
       report = refl;
-      report_faults = refl;
     }))
     c.in-Some.ensures.looped (c.close.ensures.closed _ _ _ c.in-Some.ensures.pumped) c.in-Ok.ensures.len

@@ -1,4 +1,4 @@
-use Rattle.tnc_record.proofs.Common.{ap, ring_len, stream_of}
+use Rattle.tnc_record.proofs.Common.{ap, ring_len}
 use Rattle.tnc_record.proofs.LoopLemmas.{loop_cut, ran_over, from_output}
 use Rattle.tnc_record.proofs.TurnLemmas.{runs_more}
 use Rattle.tnc_record.proofs.looping.record_loop.Goals as goal
@@ -22,7 +22,7 @@ returns-in-Ok-true-clause-looped g c =
       over.recording,
       over.answered,
       from_output c.args.words.now c.finish.result over.recording _ _ _ _ _
-          (ap (stream_of g.O.Sink.written g.O.Sink.faults) c.turns.invariant.2)
+          (ap g.O.Sink.told c.turns.invariant.2)
           (c.finish.ensures c.args.words.now (ring_len c.args.ring.now) over.recording _ over.answered.stands over.keep
           over.answered.recorded over.run over.writes),
     )
@@ -31,5 +31,5 @@ pub returns-in-Err-clause-looped : goal.returns-in-Err-clause-looped
 returns-in-Err-clause-looped g c =
     let runs = c.turns.invariant.1 in
     loop_cut c.args.words.now c.turns.listening c.turn.new.self (ring_len c.args.ring.now) _ _ _ _ _
-    (ap (stream_of g.O.Sink.written g.O.Sink.faults) c.turns.invariant.2) runs
+    (ap g.O.Sink.told c.turns.invariant.2) runs
     (c.in-Err.ensures.cut c.args.words.now runs.recording runs.stands)

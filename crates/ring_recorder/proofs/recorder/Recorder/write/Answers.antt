@@ -10,7 +10,7 @@ returns-in_err-write-clause-partly g c before is =
     (wave_parts c.in-Ok.head c.len.result c.args.self.now.sound c.as_slices.result.0.now c.as_slices.result.1.now
     c.in-Ok.ensures.head (c.len.ensures.len ∙ ap (λ v. length v.sound) c.self.view_is)
     (c.as_slices.ensures ∙ ap (λ v. v.sound) c.self.view_is))
-    before (g.O.Sink.written c.write.new.self) (c.in_err-write.ensures.partly before is))
+    before (g.O.Sink.told c.write.new.self).written (c.in_err-write.ensures.partly before is))
 
 pub returns-in_err-write_samples-clause-partly : goal.returns-in_err-write_samples-clause-partly
 returns-in_err-write_samples-clause-partly g c before is =
@@ -19,7 +19,7 @@ returns-in_err-write_samples-clause-partly g c before is =
     (wave_parts c.in-Ok.head c.len.result c.args.self.now.sound c.as_slices.result.0.now c.as_slices.result.1.now
     c.in-Ok.ensures.head (c.len.ensures.len ∙ ap (λ v. length v.sound) c.self.view_is)
     (c.as_slices.ensures ∙ ap (λ v. v.sound) c.self.view_is))
-    before (g.O.Sink.written c.write_samples.new.output)
+    before (g.O.Sink.told c.write_samples.new.output).written
     (c.in_err-write_samples.ensures.partly (before ++ c.in-Ok.head) (c.in_ok-write.ensures.appends before is)))
 
 pub returns-clause-appends : goal.returns-clause-appends
@@ -29,7 +29,7 @@ returns-clause-appends g c before is =
     (wave_parts c.in-Ok.head c.len.result c.args.self.now.sound c.as_slices.result.0.now c.as_slices.result.1.now
     c.in-Ok.ensures.head (c.len.ensures.len ∙ ap (λ v. length v.sound) c.self.view_is)
     (c.as_slices.ensures ∙ ap (λ v. v.sound) c.self.view_is))
-    before (g.O.Sink.written c.write_samples-2.new.output))
+    before (g.O.Sink.told c.write_samples-2.new.output).written)
     (c.write_samples-2.ensures.appends _ (c.in_ok-write_samples.ensures.appends (before ++ c.in-Ok.head)
     (c.in_ok-write.ensures.appends before is)))
 
@@ -40,6 +40,6 @@ returns-clause-partly g c before is =
     (wave_parts c.in-Ok.head c.len.result c.args.self.now.sound c.as_slices.result.0.now c.as_slices.result.1.now
     c.in-Ok.ensures.head (c.len.ensures.len ∙ ap (λ v. length v.sound) c.self.view_is)
     (c.as_slices.ensures ∙ ap (λ v. v.sound) c.self.view_is))
-    before (g.O.Sink.written c.write_samples-2.new.output))
+    before (g.O.Sink.told c.write_samples-2.new.output).written)
     (c.write_samples-2.ensures.partly _ (c.in_ok-write_samples.ensures.appends (before ++ c.in-Ok.head)
     (c.in_ok-write.ensures.appends before is)))

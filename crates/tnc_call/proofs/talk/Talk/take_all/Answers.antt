@@ -11,12 +11,12 @@ loop-event-preserved g c = record {
       let id : ℕ = c.args.id in
       let event : HostEvent = c.event-item.result in
       let P : List ℕ → Type 0 = λ xs. GoesOn c.take-end.new.self plan xs before
-      (g.O.Sink.written c.take-end.new.output) in
+      (g.O.Sink.told c.take-end.new.output).written in
       subst P (octets_with id host events i event c.loop-event-test.true c.event-item.is)
       (goes_if_none c.take-end.result
       (P ((host ++ octets_of id (take i events)) ++ event_octets id event))
       (StopsBy plan id (host ++ octets_of id (take i events)) (event ∷ []) before
-      (g.O.Sink.written c.take-end.new.output))
+      (g.O.Sink.told c.take-end.new.output).written)
       (sym c.is_some.ensures ∙ c.if-is_some.false)
       (c.take-end.ensures.taken plan (host ++ octets_of id (take i events)) before
       (c.loop-event.invariant.goes_on plan host before goes)));
@@ -33,7 +33,7 @@ returns-then-is_some-clause-taken g c = λ plan host before goes.
     let i : ℕ = c.loop-event.event-index in
     let id : ℕ = c.args.id in
     let event : HostEvent = c.event-item.result in
-    let written = g.O.Sink.written c.take-end.new.output in
+    let written = (g.O.Sink.told c.take-end.new.output).written in
     let R : Type 0 = GoesOn c.take-end.new.self plan (host ++ octets_of id events) before written in
     let P : List HostEvent → Type 0 = λ es. MatchOption c.take-end.result R (StopsBy plan id host es before written) in
     subst P (split_at events i event c.loop-event-test.true c.event-item.is)

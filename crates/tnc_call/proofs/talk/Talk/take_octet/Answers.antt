@@ -20,7 +20,7 @@ returns-in-Err-Refused-clause-taken g c = λ plan host before goes.
     let fault = subst (λ f. IsFault plan host c.args.octet f) arm.field-0-is
     (arm.ensures.fault plan host goes.client) in (
       fault.1,
-      nothing_printed plan host c.args.octet before (g.O.Sink.written c.args.output.now)
+      nothing_printed plan host c.args.octet before (g.O.Sink.told c.args.output.now).written
           (arm.ensures.printed plan host goes.client (refused arm.field-0 arm.field-0-is)) goes.is_printed,
     )
 
@@ -30,11 +30,11 @@ returns-in-Err-Broken-clause-taken g c = λ plan host before goes.
     let fault = subst (λ f. IsFault plan host c.args.octet f) arm.field-0-is
     (arm.ensures.fault plan host goes.client) in (
       fault.1,
-      nothing_printed plan host c.args.octet before (g.O.Sink.written c.args.output.now)
+      nothing_printed plan host c.args.octet before (g.O.Sink.told c.args.output.now).written
           (arm.ensures.printed plan host goes.client (broken arm.field-0 arm.len arm.field-0-is)) goes.is_printed,
     )
 
 pub returns-in-Err-Memory-clause-taken : goal.returns-in-Err-Memory-clause-taken
 returns-in-Err-Memory-clause-taken g c = λ plan host before goes.
-    part_stays plan host (c.args.octet ∷ []) before (g.O.Sink.written c.args.output.now)
-    (all_is_part plan host before (g.O.Sink.written c.args.output.now) goes.is_printed)
+    part_stays plan host (c.args.octet ∷ []) before (g.O.Sink.told c.args.output.now).written
+    (all_is_part plan host before (g.O.Sink.told c.args.output.now).written goes.is_printed)

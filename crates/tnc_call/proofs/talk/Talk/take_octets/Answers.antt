@@ -10,11 +10,11 @@ loop-octet-preserved g c = record {
       let octets : List ℕ = c.args.octets.now in
       let i : ℕ = c.loop-octet.octet-index in
       let P : List ℕ → Type 0 = λ xs. GoesOn c.take_octet-end.new.self plan xs before
-      (g.O.Sink.written c.take_octet-end.new.output) in
+      (g.O.Sink.told c.take_octet-end.new.output).written in
       subst P (one_more host octets i c.loop-octet-test.true)
       (goes_if_none c.take_octet-end.result _
       (Stops plan ((host ++ take i octets) ++ get_or octets i 0 ∷ []) before
-      (g.O.Sink.written c.take_octet-end.new.output))
+      (g.O.Sink.told c.take_octet-end.new.output).written)
       (sym c.is_some.ensures ∙ c.if-is_some.false)
       (c.take_octet-end.ensures.taken plan (host ++ take i octets) before
       (c.loop-octet.invariant.goes_on plan host before
@@ -30,7 +30,7 @@ pub returns-then-is_some-clause-taken : goal.returns-then-is_some-clause-taken
 returns-then-is_some-clause-taken g c = λ plan host before goes.
     let octets : List ℕ = c.args.octets.now in
     let i : ℕ = c.loop-octet.octet-index in
-    let written = g.O.Sink.written c.take_octet-end.new.output in
+    let written = (g.O.Sink.told c.take_octet-end.new.output).written in
     let stopped : MatchOption c.take_octet-end.result _ (Stops plan ((host ++ take i octets) ++ get_or octets i 0 ∷ [])
     before written) = c.take_octet-end.ensures.taken plan (host ++ take i octets) before
     (c.loop-octet.invariant.goes_on plan host before goes) in

@@ -5,9 +5,9 @@ use Rattle.tnc_call.proofs.talk.Talk.take_octets.Given as goal
 abbrev pub invariant-loop-octet : goal.invariant-loop-octet
 invariant-loop-octet g l = record {
   goes_on : (plan : CallPlan) (host before : List ℕ)
-      → GoesOn l.fn.self plan host before (g.O.Sink.written l.fn.output)
-      → GoesOn l.self plan (host ++ take l.octet-index l.octets) before (g.O.Sink.written l.output);
+      → GoesOn l.fn.self plan host before (g.O.Sink.told l.fn.output).written
+      → GoesOn l.self plan (host ++ take l.octet-index l.octets) before (g.O.Sink.told l.output).written;
   kept : l.self.taken ≡ l.fn.self.taken;
   within : l.self.taken ≤ length l.self.sent.items;
-  faultless : g.O.Sink.faults l.output ≡ g.O.Sink.faults l.fn.output;
+  faultless : (g.O.Sink.told l.output).faults ≡ (g.O.Sink.told l.fn.output).faults;
 }

@@ -10,11 +10,11 @@ returns-in-Ok-clause-turned g c = λ plan before start trace running.
     let arm = c.in-Ok.ensures in
     let taken : ℕ = c.offer.new.self.taken in
     let next : CallTrace = with_offer (length talk.sent.items - talk.taken) (taken - talk.taken) trace in
-    let P : Talk → Type 0 = λ t. HasOffered t plan c.args.id before (g.O.Sink.written c.args.output.now) start
+    let P : Talk → Type 0 = λ t. HasOffered t plan c.args.id before (g.O.Sink.told c.args.output.now).written start
     (told c.offer.new.ports) next in
     c.hear.ensures.heard plan before start next
     (subst P (sym arm.kept)
-    (has_offered talk plan c.args.id before (g.O.Sink.written c.args.output.now) start
+    (has_offered talk plan c.args.id before (g.O.Sink.told c.args.output.now).written start
     (told c.args.ports.now) trace running
     taken (told c.offer.new.ports) arm.taken arm.within c.requires.within
     (record {
@@ -29,7 +29,8 @@ pub returns-in-Err-clause-turned : goal.returns-in-Err-clause-turned
 returns-in-Err-clause-turned g c = λ plan before start trace running.
     let told = g.N.Ports.told in
     let arm = c.in-Err.ensures in
-    send_failed c.args.self.now plan c.args.id before (g.O.Sink.written c.args.output.now) start (told c.args.ports.now)
+    send_failed c.args.self.now plan c.args.id before (g.O.Sink.told c.args.output.now).written start
+    (told c.args.ports.now)
     trace running (told c.offer.new.ports) arm.polls arm.refused.1 arm.refused.0
     (record { listens = arm.listens; dials = arm.dials; shut = arm.shut; later = arm.later })
     arm.rose arm.refused.2 c.requires.within

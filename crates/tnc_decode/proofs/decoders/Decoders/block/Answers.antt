@@ -30,19 +30,19 @@ pub returns-in-Plain-clause-given : goal.returns-in-Plain-clause-given
 returns-in-Plain-clause-given g c =
     let block : List ℤ = c.args.block.now in
     let old = c.in-Plain.decoder in
-    let new = c.block_threads.new.self in
-    let P : Decoders → Type 0 = λ self. IfOk c.block_threads.result (λ items. (modem : Modem) (x : List ℤ)
+    let new = c.block_by.new.self in
+    let P : Decoders → Type 0 = λ self. IfOk c.block_by.result (λ items. (modem : Modem) (x : List ℤ)
     → HasDecoded modem self x
     → HasDecoded modem (Plain new) (x ++ block) × AreGivenBetween modem (settled_count modem x)
     (settled_count modem (x ++ block)) (x ++ block) items.items) in
-    subst P (sym c.in-Plain.is) (IfOk-weaker c.block_threads.result
+    subst P (sym c.in-Plain.is) (IfOk-weaker c.block_by.result
     (λ items. (x : List ℤ) → StandsFor old x → StandsFor new (x ++ block)
     × AreMergedBetween (length x) (length (x ++ block)) (x ++ block) items.items)
     (λ items. (modem : Modem) (x : List ℤ) → HasDecoded modem (Plain old) x
     → HasDecoded modem (Plain new) (x ++ block) × AreGivenBetween modem (settled_count modem x)
     (settled_count modem (x ++ block)) (x ++ block) items.items)
     (λ items given. plain_block old new block items.items given)
-    c.block_threads.ensures.given)
+    c.block_by.ensures.given)
 
 pub returns-in-Plain-2-clause-given : goal.returns-in-Plain-2-clause-given
 returns-in-Plain-2-clause-given g c =
@@ -66,12 +66,12 @@ pub returns-in-Wide-clause-given : goal.returns-in-Wide-clause-given
 returns-in-Wide-clause-given g c =
     let block : List ℤ = c.args.block.now in
     let old = c.in-Wide.decoder in
-    let new = c.block_threads-in-Wide.new.self in
-    let P : Decoders → Type 0 = λ self. IfOk c.block_threads-in-Wide.result (λ items. (modem : Modem) (x : List ℤ)
+    let new = c.block_threads.new.self in
+    let P : Decoders → Type 0 = λ self. IfOk c.block_threads.result (λ items. (modem : Modem) (x : List ℤ)
     → HasDecoded modem self x
     → HasDecoded modem (Wide new) (x ++ block) × AreGivenBetween modem (settled_count modem x)
     (settled_count modem (x ++ block)) (x ++ block) items.items) in
-    subst P (sym c.in-Wide.is) (IfOk-weaker c.block_threads-in-Wide.result
+    subst P (sym c.in-Wide.is) (IfOk-weaker c.block_threads.result
     (λ items. (x : List ℤ) → WideStandsFor old x → WideStandsFor new (x ++ block)
     × AreWideMergedBetween (settled_ends (length x)) (settled_ends (length (x ++ block))) (filtered (x ++ block))
     items.items)
@@ -79,7 +79,7 @@ returns-in-Wide-clause-given g c =
     → HasDecoded modem (Wide new) (x ++ block) × AreGivenBetween modem (settled_count modem x)
     (settled_count modem (x ++ block)) (x ++ block) items.items)
     (λ items given. wide_block old new block items.items given)
-    c.block_threads-in-Wide.ensures.given)
+    c.block_threads.ensures.given)
 
 pub returns-in-Wide-2-clause-given : goal.returns-in-Wide-2-clause-given
 returns-in-Wide-2-clause-given g c =
@@ -122,12 +122,12 @@ pub returns-in-Sensitive-clause-given : goal.returns-in-Sensitive-clause-given
 returns-in-Sensitive-clause-given g c =
     let block : List ℤ = c.args.block.now in
     let old = c.in-Sensitive.decoder in
-    let new = c.block_threads-in-Sensitive.new.self in
-    let P : Decoders → Type 0 = λ self. IfOk c.block_threads-in-Sensitive.result
+    let new = c.block_by-in-Sensitive.new.self in
+    let P : Decoders → Type 0 = λ self. IfOk c.block_by-in-Sensitive.result
     (λ items. (modem : Modem) (x : List ℤ) → HasDecoded modem self x
     → HasDecoded modem (Sensitive new) (x ++ block)
     × AreGivenBetween modem (settled_count modem x) (settled_count modem (x ++ block)) (x ++ block) items.items) in
-    subst P (sym c.in-Sensitive.is) (IfOk-weaker c.block_threads-in-Sensitive.result
+    subst P (sym c.in-Sensitive.is) (IfOk-weaker c.block_by-in-Sensitive.result
     (λ items. (x : List ℤ) → SensitiveStandsFor old x
     → SensitiveStandsFor new (x ++ block)
     × AreSensitiveMergedBetween (settled (length x)) (settled (length (x ++ block))) (x ++ block) items.items)
@@ -135,7 +135,7 @@ returns-in-Sensitive-clause-given g c =
     → HasDecoded modem (Sensitive new) (x ++ block)
     × AreGivenBetween modem (settled_count modem x) (settled_count modem (x ++ block)) (x ++ block) items.items)
     (λ items given. sensitive_block old new block items.items given)
-    c.block_threads-in-Sensitive.ensures.given)
+    c.block_by-in-Sensitive.ensures.given)
 
 pub returns-in-Sensitive-2-clause-given : goal.returns-in-Sensitive-2-clause-given
 returns-in-Sensitive-2-clause-given g c =
@@ -250,8 +250,8 @@ returns-in-SensitiveFx25-clause-given g c =
     (λ items given. sensitive_fx25_block old new block items.items given)
     c.block-in-SensitiveFx25.ensures.given)
 
-pub block_threads-requires-in-Wide-clause-few : goal.block_threads-requires-in-Wide-clause-few
-block_threads-requires-in-Wide-clause-few g c κs within =
+pub block_threads-requires-clause-few : goal.block_threads-requires-clause-few
+block_threads-requires-clause-few g c κs within =
     few_shared c.args.threads (length c.args.block.now)
     (subst (λ d. TakesAtOnce c.args.threads d (length c.args.block.now)) c.in-Wide.is c.requires.few)
 

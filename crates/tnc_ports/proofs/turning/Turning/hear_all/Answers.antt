@@ -1,4 +1,4 @@
-use Rattle.tnc_ports.proofs.Common.{refl, ap, ◌∙◌, stream_of}
+use Rattle.tnc_ports.proofs.Common.{refl, ap, ◌∙◌}
 use Rattle.host_ports.proofs.ResultLemmas.{on_err}
 use Rattle.tnc_ports.proofs.LiveSteps.{hears_none, hears_next, hears_done, hears_some}
 use Rattle.tnc_ports.proofs.turning.Turning.hear_all.Goals as goal
@@ -24,7 +24,7 @@ returns-in_err-hear-clause-cut g c = λ hosts keeps.
     on_err c.from_residual.result _
     (hears_some c.args.items.now c.loop-item.item-index c.args.self.now c.loop-item.self c.hear.new.self hosts _ _ _
     (c.loop-item.invariant.0 hosts keeps)
-    (ap (stream_of g.E.Sink.written g.E.Sink.faults) c.in_err-hear.ensures.unwritten.0)
+    (ap g.E.Sink.told c.in_err-hear.ensures.unwritten.0)
     c.in_err-hear.ensures.unwritten.1)
 
 pub returns-in_err-hear-clause-rest : goal.returns-in_err-hear-clause-rest

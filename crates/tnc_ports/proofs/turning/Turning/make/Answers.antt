@@ -1,4 +1,4 @@
-use Rattle.tnc_ports.proofs.Common.{ap, ◌∙◌, ℕ, length, refl, ring_len, stream_of}
+use Rattle.tnc_ports.proofs.Common.{ap, ◌∙◌, ℕ, length, refl, ring_len}
 use Rattle.tnc_ports.proofs.Common.{◌≡◌, Candidate, List, Turning}
 use Rattle.host_ports.specs.declared.health.Health.{Health}
 use Rattle.host_ports.specs.Health.{with_heard}
@@ -24,7 +24,7 @@ returns-in_err-heard-clause-cut g c = λ from live stands key.
     (λ told. cut_reading from c.args.self.now c.read.new.self (ring_len c.args.ring.now) c.read.new.receiver live _ _ _ _
     _ key (c.in_err-heard.ensures.cut live stands) c.in_err-heard.ensures.unwritten.1 c.in_err-heard.ensures.rest.0
     c.in_err-heard.ensures.rest.3
-    (ap (stream_of g.E.Sink.written g.E.Sink.faults) c.in_err-heard.ensures.unwritten.0) stands.measures
+    (ap g.E.Sink.told c.in_err-heard.ensures.unwritten.0) stands.measures
     c.in_err-heard.ensures.rest.4)
 
 pub returns-in_err-hear_all-clause-cut : goal.returns-in_err-hear_all-clause-cut
@@ -32,7 +32,7 @@ returns-in_err-hear_all-clause-cut g c = λ from live stands key.
     on_err c.from_residual-in_err-hear_all.result _
     (λ told. cut_hearing from c.in_ok-heard.heard.ended c.in_ok-heard.heard.least c.in_ok-heard.heard.items.items
     c.args.self.now c.read.new.self c.hear_all.new.self (ring_len c.args.ring.now) c.read.new.receiver live _ _
-    (stream_of g.E.Sink.written g.E.Sink.faults c.read.new.report) _ _ _ key
+    (g.E.Sink.told c.read.new.report) _ _ _ key
     (c.in_ok-heard.ensures.reads live stands)
     (λ hosts keeps. hears_some_same c.deref.result.now c.in_ok-heard.heard.items.items c.read.new.self
     c.hear_all.new.self hosts _ _ c.deref.ensures.value (c.in_err-hear_all.ensures.cut hosts keeps))
@@ -47,9 +47,9 @@ returns-in_err-tick_up_to-clause-cut g c = λ from live stands key.
     c.args.self.now c.read.new.self (counted c.hear_all.new.self c.hear.new.self) c.turn_key.new.self
     c.tick_up_to.new.self
     (ring_len c.args.ring.now) c.args.receiver.now c.read.new.receiver live _ _ _
-    (stream_of g.E.Sink.written g.E.Sink.faults c.read.new.report)
-    (stream_of g.E.Sink.written g.E.Sink.faults c.hear_all.new.report)
-    (stream_of g.E.Sink.written g.E.Sink.faults c.turn_key.new.report) _ _ _ _ _
+    (g.E.Sink.told c.read.new.report)
+    (g.E.Sink.told c.hear_all.new.report)
+    (g.E.Sink.told c.turn_key.new.report) _ _ _ _ _
     stands key (c.in_ok-heard.ensures.reads live stands)
     (λ hosts keeps. hears_counted c.in_ok-heard.heard.items.items c.read.new.self c.hear_all.new.self
     (counted c.hear_all.new.self c.hear.new.self) hosts _ _ refl refl
@@ -72,9 +72,9 @@ returns-clause-made g c = λ from live stands key.
     c.args.self.now c.read.new.self (counted c.hear_all.new.self c.hear.new.self) c.turn_key.new.self
     c.tick_up_to.new.self
     (ring_len c.args.ring.now) c.args.receiver.now c.read.new.receiver live _ _ _
-    (stream_of g.E.Sink.written g.E.Sink.faults c.read.new.report)
-    (stream_of g.E.Sink.written g.E.Sink.faults c.hear_all.new.report)
-    (stream_of g.E.Sink.written g.E.Sink.faults c.turn_key.new.report) _ _ _ _
+    (g.E.Sink.told c.read.new.report)
+    (g.E.Sink.told c.hear_all.new.report)
+    (g.E.Sink.told c.turn_key.new.report) _ _ _ _
     stands key (c.in_ok-heard.ensures.reads live stands)
     (λ hosts keeps. hears_counted c.in_ok-heard.heard.items.items c.read.new.self c.hear_all.new.self
     (counted c.hear_all.new.self c.hear.new.self) hosts _ _ refl refl

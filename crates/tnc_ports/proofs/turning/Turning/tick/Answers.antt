@@ -1,6 +1,6 @@
 use Rattle.key_port.specs.KeySides.{reports_in}
 use Rattle.tnc_ports.proofs.Common.{◌++◌, ap, refl, sym, subst, ◌∙◌, ◌+◌, StandsFor, report_text}
-use Rattle.tnc_ports.proofs.Common.{Bool, Puts, key_line, map, output_octets, ring_len, stream_of}
+use Rattle.tnc_ports.proofs.Common.{Bool, Puts, key_line, map, output_octets, ring_len}
 use Rattle.sound_rate.specs.declared.outgoing.Outgoing.{Outgoing}
 use Rattle.sound_rate.specs.HeldRates.{HasMade}
 use Rattle.tnc_ports.specs.SampledHeld.{KeyStands}
@@ -24,19 +24,19 @@ returns-clause-ticked g c = λ from live keeps at measures key.
     let gone = c.put_samples.ensures.put rate live.samples
     (subst (λ (held : Outgoing). HasMade rate held live.samples) (sym same_out) measures.made) in
     let out : Puts c.args.self.now.failed c.put_samples.new.failed (output_octets gone.1)
-    (stream_of g.O.Sink.written g.O.Sink.faults c.args.output.now)
-    (stream_of g.O.Sink.written g.O.Sink.faults c.put_samples.new.sink) =
+    (g.O.Sink.told c.args.output.now)
+    (g.O.Sink.told c.put_samples.new.sink) =
     subst (λ (b : Bool). Puts b c.put_samples.new.failed (output_octets gone.1)
-    (stream_of g.O.Sink.written g.O.Sink.faults c.args.output.now)
-    (stream_of g.O.Sink.written g.O.Sink.faults c.put_samples.new.sink)) c.key_tick-keyed.ensures.rest.3 gone.3 in
+    (g.O.Sink.told c.args.output.now)
+    (g.O.Sink.told c.put_samples.new.sink)) c.key_tick-keyed.ensures.rest.3 gone.3 in
     let last : Puts c.put_reports.new.failed c.put_reports-2.new.failed
     (report_text (map key_line (reports_in c.key_written-lost.result)))
-    (stream_of g.E.Sink.written g.E.Sink.faults c.put_reports.new.report)
-    (stream_of g.E.Sink.written g.E.Sink.faults c.put_reports-2.new.report) =
+    (g.E.Sink.told c.put_reports.new.report)
+    (g.E.Sink.told c.put_reports-2.new.report) =
     subst (λ (b : Bool). Puts b c.put_reports-2.new.failed
     (report_text (map key_line (reports_in c.key_written-lost.result)))
-    (stream_of g.E.Sink.written g.E.Sink.faults c.put_reports.new.report)
-    (stream_of g.E.Sink.written g.E.Sink.faults c.put_reports-2.new.report)) c.key_written-lost.ensures.rest.3
+    (g.E.Sink.told c.put_reports.new.report)
+    (g.E.Sink.told c.put_reports-2.new.report)) c.key_written-lost.ensures.rest.3
     c.put_reports-2.ensures in
     ticks_once from (ring_len c.args.ring.now) c.args.busy c.is_busy-held.result c.in_ok-air.air c.args.self.now _ c.tick.new.self live
     c.in_ok-shown.shown.items c.take_lines-lines.result.items (reports_in c.key_tick-keyed.result)

@@ -1,4 +1,4 @@
-use Rattle.tnc_ports.proofs.Common.{◌-◌, ◌/◌, refl, ap, ◌∙◌, arith, ring_len, stream_of}
+use Rattle.tnc_ports.proofs.Common.{◌-◌, ◌/◌, refl, ap, ◌∙◌, arith, ring_len}
 use Rattle.std.proofs.Common.{suc}
 use Rattle.host_ports.proofs.ResultLemmas.{on_err}
 use Rattle.tnc_ports.proofs.LiveSteps.{ticks_none, ticks_more, ticks_done, ticks_some, count_due}
@@ -37,8 +37,8 @@ returns-in_err-tick-clause-cut g c = λ from live keeps at measures key.
       h.0,
       (let e = h.1 in let t = c.loop-tick-test.true in omega (arith, e, t)),
       ticks_some from c.args.busy h.0 (ring_len c.args.ring.now) c.args.self.now c.loop-tick.self c.tick.new.self live _ _ _ _ _ _ _ _ h.3
-          (ap (stream_of g.O.Sink.written g.O.Sink.faults) c.in_err-tick.ensures.unwritten.0)
-          (ap (stream_of g.E.Sink.written g.E.Sink.faults) c.in_err-tick.ensures.unwritten.1)
+          (ap g.O.Sink.told c.in_err-tick.ensures.unwritten.0)
+          (ap g.E.Sink.told c.in_err-tick.ensures.unwritten.1)
           (ap g.K.KeyPort.told c.in_err-tick.ensures.unwritten.2)
           c.in_err-tick.ensures.unwritten.3 c.in_err-tick.ensures.rest c.in_err-tick.ensures.unwritten.4
           c.in_err-tick.ensures.measured,

@@ -1,5 +1,5 @@
 -- The ticks so far.
-use Rattle.tnc_ports.proofs.Common.{◌≡◌, ℕ, ◌+◌, ◌<◌, ◌≤◌, From, KeyedSince, Live, Keeps, TicksAll, stream_of}
+use Rattle.tnc_ports.proofs.Common.{◌≡◌, ℕ, ◌+◌, ◌<◌, ◌≤◌, From, KeyedSince, Live, Keeps, TicksAll}
 use Rattle.tnc_ports.proofs.Common.{reader_ring, ring_id, ring_len}
 use Rattle.tnc_ports.specs.HeldMeter.{Measures}
 use Rattle.tnc_ports.proofs.turning.Turning.tick_up_to.Given as goal
@@ -7,13 +7,14 @@ use Rattle.tnc_ports.proofs.turning.Turning.tick_up_to.Given as goal
 abbrev pub invariant-loop-tick : goal.invariant-loop-tick
 invariant-loop-tick g l =
     ((from : From) (live : Live) → Keeps l.initial.self.hosts live.hosts → l.initial.self.ticks ≡ live.ticks
-    → Measures (ring_len l.ring) l.initial.self.words.rate l.initial.self.meter live → KeyedSince from l.initial.self live (stream_of g.O.Sink.written g.O.Sink.faults l.initial.output)
-    (stream_of g.E.Sink.written g.E.Sink.faults l.initial.report)
+    → Measures (ring_len l.ring) l.initial.self.words.rate l.initial.self.meter live
+    → KeyedSince from l.initial.self live (g.O.Sink.told l.initial.output)
+    (g.E.Sink.told l.initial.report)
     (g.K.KeyPort.told l.initial.key)
     → (count : ℕ) × (l.tick ≡ live.ticks + count) × (0 < count → l.tick ≤ l.tick-end)
     × TicksAll from l.busy count (ring_len l.ring) l.initial.self l.self live
-    (stream_of g.O.Sink.written g.O.Sink.faults l.initial.output) (stream_of g.O.Sink.written g.O.Sink.faults l.output)
-    (stream_of g.E.Sink.written g.E.Sink.faults l.initial.report) (stream_of g.E.Sink.written g.E.Sink.faults l.report)
+    (g.O.Sink.told l.initial.output) (g.O.Sink.told l.output)
+    (g.E.Sink.told l.initial.report) (g.E.Sink.told l.report)
     (g.K.KeyPort.told l.key))
     × (l.self.words ≡ l.initial.self.words)
     × (reader_ring l.self.meter.reader ≡ ring_id l.ring)

@@ -1,89 +1,60 @@
-use Rattle.tone_tracking.proofs.Common.{◌≡◌, ◌≤◌, ◌+◌, ◌-◌, ◌∙◌, ℤ, List, get_or, length, sym, subst, ap, arith, All, unsigned_abs}
-use Rattle.tone_tracking.proofs.Common.{rules, FitsSigned, to_z-of_z, w32}
-use Rattle.std.proofs.Common.{◌++◌, drop, take, length-append}
-use Rattle.std.proofs.Math.Seq.{take-append_seam}
+use Rattle.tone_tracking.proofs.Common.{◌≡◌, ◌+◌, ◌-◌, ◌<◌, ◌∙◌, ℤ, List, [], length, ap, sym, subst, arith, rules}
+use Rattle.std.proofs.Common.{◌++◌, append_assoc, append-nil, length-append}
+use Rattle.std.specs.Slice.Iter.{chunks_rest}
 use Rattle.tone_tracking.specs.HeldLine.{Settles}
 use Rattle.tone_tracking.specs.HeldMean.{HeldMean}
-use Rattle.tone_tracking.proofs.LevelLemmas.{first_small, first_sum, last_sum, last_are, block_settled}
+use Rattle.tone_tracking.proofs.PieceLemmas.{HasTakenPart, none_taken, one_more}
 use Rattle.tone_tracking.proofs.block_mean.BlockMean.feed.Goals as goal
 
-pub slide-sum-requires-clause-small : goal.slide-sum-requires-clause-small
-slide-sum-requires-clause-small c =
-    let s = c.self.inside in
-    let block : List ℤ = c.args.block.now in
-    let are : c.extend_from_slice-2.new.self.items ≡ s.recent ++ block = c.in_ok-extend_from_slice-2.ensures.items
-    ∙ ap (λ l. l ++ block) (c.in_ok-extend_from_slice.ensures.items ∙ ap (λ l. l ++ s.recent) c.clear.ensures.items) in
-    first_small s.recent block c.deref.result.now c.self.told (c.deref.ensures.value ∙ are) c.self.invariant.small
+pub loop-piece-init : goal.loop-piece-init
+loop-piece-init c = (
+  search rules,
+  search rules,
+  search rules,
+  [],
+  search rules,
+  subst (λ items. HasTakenPart c.args.self.now c.args.self.now items items []) (sym c.in_ok-reserve.ensures.items)
+      (none_taken c.args.self.now c.args.levels.now.items c.requires.small),
+)
 
-pub slide-sum-requires-clause-sum : goal.slide-sum-requires-clause-sum
-slide-sum-requires-clause-sum c =
-    let s = c.self.inside in
-    let block : List ℤ = c.args.block.now in
-    let are : c.extend_from_slice-2.new.self.items ≡ s.recent ++ block = c.in_ok-extend_from_slice-2.ensures.items
-    ∙ ap (λ l. l ++ block) (c.in_ok-extend_from_slice.ensures.items ∙ ap (λ l. l ++ s.recent) c.clear.ensures.items) in
-    let fits : FitsSigned w32 s.sum = search rules in
-    to_z-of_z w32 s.sum fits
-    ∙ first_sum s.recent block c.deref.result.now c.self.told (c.deref.ensures.value ∙ are) s.sum c.self.invariant
+-- what was taken so far, and a piece more
+pub loop-piece-preserved : goal.loop-piece-preserved
+loop-piece-preserved c =
+    let piece : List ℤ = c.in-Some.piece.now in
+    let rest : List ℤ = chunks_rest c.next.new.self in
+    let before = c.loop-piece.invariant in
+    let done : List ℤ = before.3 in
+    let steps = c.in-Some.ensures.steps in
+    let whole : done ++ (piece ++ rest) ≡ c.args.block.now = ap (λ t. done ++ t) (sym steps.1.0) ∙ before.4 in (
+      search rules,
+      tt,
+      steps.0 ∙ before.2,
+      done ++ piece,
+      append_assoc done piece rest ∙ whole,
+      one_more c.args.self.now c.loop-piece.self c.take.new.self c.reserve.new.self.items c.loop-piece.levels.items
+          c.take.new.levels.items done piece before.5
+          (record {
+            settled = c.in_ok-take.ensures.settled;
+            left = c.in_ok-take.ensures.left;
+            length = c.in_ok-take.ensures.length;
+            small = c.in_ok-take.ensures.small;
+          }),
+    )
 
-pub invariant_of-self-2 : goal.invariant_of-self-2
-invariant_of-self-2 c =
-    let s = c.self.inside in
-    let block : List ℤ = c.args.block.now in
-    let are : c.extend_from_slice-2.new.self.items ≡ s.recent ++ block = c.in_ok-extend_from_slice-2.ensures.items
-    ∙ ap (λ l. l ++ block) (c.in_ok-extend_from_slice.ensures.items ∙ ap (λ l. l ++ s.recent) c.clear.ensures.items) in
-    let same : c.deref-3.result.now ≡ c.deref-2.result.now = c.deref-3.ensures.value ∙ sym c.deref-2.ensures.value in
-    let fits : FitsSigned w32 c.write_levels-self-inside.result = search rules in
-    let size = ap length (c.deref-2.ensures.value ∙ are) in
-    let both = length-append s.recent block in
-    let kept : length s.recent ≡ 32 = c.self.told in
-    last_sum c.deref-2.result.now c.last_samples-self-inside.result _
-    (c.last_samples-self-inside.ensures ∙ ap (λ l. drop (length l - 32) l) same) (omega arith)
-    c.write_levels-self-inside.ensures.samples
-    (to_z-of_z w32 c.write_levels-self-inside.result fits ∙ c.write_levels-self-inside.ensures.sum)
+pub take-requires-clause-small : goal.take-requires-clause-small
+take-requires-clause-small c = c.loop-piece.invariant.5.small
 
-pub returns-clause-small : goal.returns-clause-small
-returns-clause-small c =
-    let made : List ℤ = c.write_levels-self-inside.new.levels in
-    let full : c.resize.new.self.len ≡ length made = sym (c.write_levels-self-inside.auto.levels ∙ c.as_mut_slice.ensures.len) in
-    let back : take c.resize.new.self.len (made ++ drop (length made) c.resize.new.self.items) ≡ made
-    = ap (λ n. take n (made ++ drop (length made) c.resize.new.self.items)) full
-    ∙ take-append_seam made (drop (length made) c.resize.new.self.items) in
-    subst (All (λ level. unsigned_abs level ≤ 262144)) (sym back) c.write_levels-self-inside.ensures.small
-
-pub returns-clause-settled : goal.returns-clause-settled
-returns-clause-settled c =
-    let s = c.self.inside in
-    let block : List ℤ = c.args.block.now in
-    let are : c.extend_from_slice-2.new.self.items ≡ s.recent ++ block = c.in_ok-extend_from_slice-2.ensures.items
-    ∙ ap (λ l. l ++ block) (c.in_ok-extend_from_slice.ensures.items ∙ ap (λ l. l ++ s.recent) c.clear.ensures.items) in
-    let levels : List ℤ = c.args.levels.now.items in
-    let made : List ℤ = c.write_levels-self-inside.new.levels in
-    let full : c.resize.new.self.len ≡ length made = sym (c.write_levels-self-inside.auto.levels ∙ c.as_mut_slice.ensures.len) in
-    let longer : List ℤ = take c.resize.new.self.len (made ++ drop (length made) c.resize.new.self.items) in
-    let back : longer ≡ made = ap (λ n. take n (made ++ drop (length made) c.resize.new.self.items)) full
-    ∙ take-append_seam made (drop (length made) c.resize.new.self.items) in
-    let silent = c.min-silent.result in
-    let now : HeldMean = record { samples = c.last_samples-self-inside.result; left = s.left - silent } in
-    let P : HeldMean → Type 0 = λ old. Settles old now levels longer block in
-    subst P c.self.view_is (λ x h.
-    let left = h.left in
-    let least = c.min-silent.ensures in
-    let from = c.from.ensures in
-    let long = c.args.levels.now.ok.0 in
-    let kept = c.write_levels-self-inside.auto.levels in
-    let known : c.len-known.result ≡ length levels = c.len-known.ensures ∙ long in
-    let new : c.resize.new.self.len ≡ c.len-known.result + (length block - silent) = c.in_ok-resize.ensures.len in
-    let as_many : length block - silent ≡ length block - s.left = omega arith in
-    let settled = block_settled x block s.recent c.deref-2.result.now h.samples (c.deref-2.ensures.value ∙ are)
-    levels made s.left silent left as_many (omega arith) (omega arith)
-    (λ i d inside. c.write_levels-self-inside.ensures.same i d (omega arith) ∙ ap (λ l. get_or l i d) c.as_mut_slice.ensures.value
-    ∙ c.in_ok-resize.ensures.by_index.0 i d (omega arith) (omega arith))
-    (λ i d inside. ap (λ n. get_or made (n + i) d) (sym known) ∙ c.write_levels-self-inside.ensures.levels i d (omega arith)) in (
-      record {
-        samples = last_are x block s.recent c.deref-3.result.now h.samples (c.deref-3.ensures.value ∙ are) _ c.last_samples-self-inside.ensures;
-        left = (let size = length-append x block in omega arith);
-      },
-      settled.0,
-      settled.1,
-      back ∙ settled.2,
-    ))
+-- a piece has room, as the block has
+pub take-requires-clause-room : goal.take-requires-clause-room
+take-requires-clause-room c =
+    let piece : List ℤ = c.in-Some.piece.now in
+    let rest : List ℤ = chunks_rest c.next.new.self in
+    let before = c.loop-piece.invariant in
+    let done : List ℤ = before.3 in
+    let room = c.requires.room in
+    let same = ap length c.in_ok-reserve.ensures.items in
+    let so_far = before.5.length in
+    let whole : done ++ (piece ++ rest) ≡ c.args.block.now = ap (λ t. done ++ t) (sym c.in-Some.ensures.steps.1.0)
+    ∙ before.4 in
+    let size : length (done ++ (piece ++ rest)) ≡ length c.args.block.now = ap length whole in
+    omega (arith, length-append done (piece ++ rest), length-append piece rest)

@@ -1,5 +1,5 @@
 use Rattle.wide_input.proofs.Common.{ap}
-use Rattle.slicer_bank.specs.declared.progress.Progress.{Progress}
+use Rattle.block_receiver.specs.declared.progress.Progress.{Progress}
 use Rattle.wide_input.proofs.WideSteps.{taken_none}
 use Rattle.wide_input.proofs.wide_bank.WideBank.new.Goals as goal
 

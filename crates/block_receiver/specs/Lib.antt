@@ -1,0 +1,4 @@
+pub mod Hearing
+pub mod MergedItems
+pub mod Progress
+pub mod HeldReceiver
