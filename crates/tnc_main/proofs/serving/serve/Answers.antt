@@ -14,7 +14,7 @@ returns-clause-served g c = (
     between = outside_by g.N.Ports.told g.K.KeyPort.told g.O.Sink.told g.E.Sink.told
         c.serve-end.new.live.ports c.serve-end.new.live.key c.serve-end.new.output c.serve-end.new.report;
     served = c.serve-end.ensures.served;
-    told = c.tell_end.ensures _ refl refl;
+    told = c.tell_end.ensures _ refl;
   },
 )
 
@@ -35,7 +35,7 @@ returns-clause-want g c = λ three.
     let between = outside_by g.N.Ports.told g.K.KeyPort.told g.O.Sink.told g.E.Sink.told
     c.serve-end.new.live.ports c.serve-end.new.live.key c.serve-end.new.output c.serve-end.new.report in
     in_want c.args.words _ _ _ between _ c.tell_end.result _ _ c.serve-end.result
-    (c.serve-end.ensures.served, c.tell_end.ensures between refl refl) c.serve-end.ensures.no_thread
+    (c.serve-end.ensures.served, c.tell_end.ensures between refl) c.serve-end.ensures.no_thread
     c.serve-end.ensures.thread (one_status c.tell_end.result NoMemory (sym c.code.ensures ∙ three))
 
 pub returns-clause-no_port : goal.returns-clause-no_port
